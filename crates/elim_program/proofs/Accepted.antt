@@ -52,7 +52,7 @@ record IsFound (command : Command) (all : List surf.Decl) (lines : List (List �
   has_k : before.has_k ≡ command.k
   accepted : Elaborated
   elaborated : elaborate_of before command.fuel declaration ≡ Ok accepted
-  written : IsAsWritten before declaration accepted
+  written : IsAsWritten before command.fuel declaration accepted
   named : accepted.name ≡ name
   longer : IsPrefix before accepted.signature
   whole : IsReady accepted.signature
@@ -197,7 +197,7 @@ onward command all d ds earlier S a b is on =
     }
 
 shown_here : (command : Command) (all : List surf.Decl) (d : surf.Decl) (ds : List surf.Decl) (earlier : List (List ℕ)) (S : Signature) (a : Elaborated) (name : List ℕ) →
-    IsBefore command all (d ∷ ds) earlier S → elaborate_of S command.fuel d ≡ Ok a → KeepsReady S a → IsAsWritten S d a → a.name ≡ name
+    IsBefore command all (d ∷ ds) earlier S → elaborate_of S command.fuel d ≡ Ok a → KeepsReady S a → IsAsWritten S command.fuel d a → a.name ≡ name
     → IsFound command all (earlier ++ own_lines S a) name
 shown_here command all d ds earlier S a name b is on written named = record {
   front = b.done;
@@ -241,11 +241,11 @@ found command all S (d ∷ ds) earlier above below name b e =
     go rec (Err refusal) er e = absurd (none_accepted (refused_lines (declared_name d) refusal) above below name (refused-other (declared_name d) refusal) e)
     go rec (Ok a) er e =
         let on = if_ok (KeepsReady S) (elaborate_of S command.fuel d) a er (elaborate-ready S command.fuel d b.ready) in
-        let written = if_ok (IsAsWritten S d) (elaborate_of S command.fuel d) a er (elaborates-written S command.fuel d b.ready) in
+        let written = if_ok (IsAsWritten S command.fuel d) (elaborate_of S command.fuel d) a er (elaborates-written S command.fuel d b.ready) in
         let rest = (declarations command.fuel a.signature ds).lines in
         which on written (find (own_lines S a) rest above below a.name name (own-other S a) (sym (split-lines S a rest) ∙ e))
       where
-        which : KeepsReady S a → IsAsWritten S d a → Found (own_lines S a) (declarations command.fuel a.signature ds).lines above below a.name name → IsFound command all (earlier ++ above) name
+        which : KeepsReady S a → IsAsWritten S command.fuel d a → Found (own_lines S a) (declarations command.fuel a.signature ds).lines above below a.name name → IsFound command all (earlier ++ above) name
         which on written (here f m r) =
             let P : List (List ℕ) → Type 0 = λ ls. IsFound command all (earlier ++ ls) name in
             subst P (sym f) (shown_here command all d ds earlier S a name b er on written m)

@@ -7,6 +7,7 @@ mod EnteredNames
 pub mod Entries
 mod FileHeads
 mod FileLines
+pub mod FirstNames
 pub mod Following
 mod FuelNumbers
 mod FunctionInLine

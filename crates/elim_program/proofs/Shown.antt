@@ -1,5 +1,5 @@
 -- A declaration that is accepted is shown by the lines above it, as the headline says.
-use Rattle.std.proofs.Common.{◌≡◌, ℕ, Bool, true, false, List, [], ◌∷◌, ◌++◌, codes, Option, Some, None, Ok, refl, sym, ap, subst, ◌∙◌, arith}
+use Rattle.std.proofs.Common.{◌≡◌, ℕ, Bool, true, false, List, [], ◌∷◌, ◌++◌, codes, Option, Some, None, Ok, refl, sym, ap, ◌∙◌, arith}
 use Rattle.std.specs.Prelude.{Contains, IsTrue, bytes_eq, ◌&&◌, if◌then◌else◌}
 use Rattle.std.proofs.lemmas.Bool.{true≢false}
 use Rattle.std.proofs.lemmas.List.Elements.{Contains-append_right}
@@ -7,18 +7,18 @@ use Rattle.std.proofs.lemmas.Slice.Eq.{bytes_eq-Decides}
 use Rattle.theory.specs.Signatures.{Definition, FamilyOf, Signature}
 use Rattle.theory.specs.WellFormed.{pushed}
 use Rattle.surface_syntax.specs.Trees as surf
-use Rattle.elab_session.specs.Declaring.{Declared, accepted_as}
 use Rattle.elab_session.specs.Sessions.{IsReady}
-use Rattle.function_session.specs.Elaborating.{Elaborated, declared_of, elaborate_of}
+use Rattle.function_session.specs.Elaborating.{Elaborated, elaborate_of}
 use Rattle.function_session.specs.Laws.{IsAsWritten}
 use Rattle.elim_program.specs.declared.words.Command.{Command}
 use Rattle.elim_program.specs.Acceptance.{AcceptedIsShown}
 use Rattle.elim_program.specs.Outputs.{head_lines}
 use Rattle.elim_program.specs.Words.{asked, command, flags, fuel_of, is_fuel, is_k, with_fuel}
 use Rattle.elim_program.specs.Written.{IsWritten}
+use Rattle.elim_program.proofs.FirstNames.{first-of_name, plain-name, plain-signature}
 use Rattle.elim_program.proofs.Lines.{if_ok}
 use Rattle.elim_program.proofs.Reading.{is-read}
-use Rattle.written_functions.specs.Functions.{IsByClauses}
+use Rattle.written_functions.specs.PlannedFunctions.{IsByPlannedClauses}
 use Rattle.written_functions.proofs.Functions.{by-clauses}
 
 -- ---- elements
@@ -28,9 +28,6 @@ first-of xs x y e = (0, omega arith, e)
 
 later-in : {A : Type 0} (xs : List A) (x y : A) → Contains xs x → Contains (y ∷ xs) x
 later-in xs x y h = Contains-append_right (y ∷ []) xs x h
-
-contains-middle : {A : Type 0} (front back : List A) (x : A) → Contains (front ++ x ∷ back) x
-contains-middle front back x = Contains-append_right front (x ∷ back) x (first-of back x x refl)
 
 -- ---- words that ask for axiom K
 
@@ -84,14 +81,8 @@ asks-k words c asks k = asked-k words (ap k-of asks ∙ k)
 
 -- ---- each form of declaration
 
-plain-name : (x : List ℕ) (T : Signature) (a : Elaborated) (name : List ℕ) → declared_of a ≡ accepted_as x T → a.name ≡ name → x ≡ name
-plain-name x T a name is named = sym (ap (λ (d : Declared). d.name) is) ∙ named
-
-plain-signature : (x : List ℕ) (T : Signature) (a : Elaborated) → declared_of a ≡ accepted_as x T → a.signature ≡ T
-plain-signature x T a is = ap (λ (d : Declared). d.signature) is
-
-written-as : (S : Signature) (fuel : ℕ) (d : surf.Decl) (a : Elaborated) (name : List ℕ) → IsReady S → elaborate_of S fuel d ≡ Ok a → IsAsWritten S d a → a.name ≡ name
-    → IsWritten S d name a.signature a.lines
+written-as : (S : Signature) (fuel : ℕ) (d : surf.Decl) (a : Elaborated) (name : List ℕ) → IsReady S → elaborate_of S fuel d ≡ Ok a → IsAsWritten S fuel d a
+    → a.name ≡ name → IsWritten S d name a.signature a.lines
 written-as S fuel (surf.Def x ty body) a name ready same is named =
     let w = is.written in
     let T = pushed S (Definition x.text w.type w.term) in (
@@ -122,7 +113,7 @@ written-as S fuel (surf.Data x params ty cons) a name ready same is named =
     )
 written-as S fuel (surf.Fun x ty clauses) a name ready same is named = (
   plain-name x.text a.signature a name is.accepted named,
-  if_ok (λ (b : Elaborated). IsByClauses S x ty clauses b.signature b.lines) (elaborate_of S fuel (surf.Fun x ty clauses)) a same (by-clauses S fuel x ty clauses ready),
+  (if_ok (IsByPlannedClauses S fuel x ty clauses) (elaborate_of S fuel (surf.Fun x ty clauses)) a same (by-clauses S fuel x ty clauses ready)).by_clauses,
 )
 written-as S fuel (surf.Decide x family decision) a name ready same is named = absurd is.written
 written-as S fuel (surf.Mutual params members family tag tags) a name ready same is named = absurd is.written
@@ -133,8 +124,11 @@ shown words bytes above name a = record {
   asked_for = asks-k words a.command a.asked_for;
   decls = a.decls;
   text = (is-read bytes a.decls a.text).0;
+  front = a.front;
   declaration = a.declaration;
-  in_text = subst (λ ds. Contains ds a.declaration) (sym a.in_text) (contains-middle a.front a.back a.declaration);
+  back = a.back;
+  in_text = a.in_text;
+  first = first-of_name words bytes above name a;
   before = a.before;
   after = a.accepted.signature;
   clauses = a.accepted.lines;

@@ -43,7 +43,7 @@ pub record IsAccepted (words : List (List ℕ)) (bytes : List ℕ) (above : List
   pub has_k : before.has_k ≡ command.k
   pub accepted : Elaborated
   pub elaborated : elaborate_of before command.fuel declaration ≡ Ok accepted
-  pub written : IsAsWritten before declaration accepted
+  pub written : IsAsWritten before command.fuel declaration accepted
   pub named : accepted.name ≡ name
   pub longer : IsPrefix before accepted.signature
   pub whole : IsReady accepted.signature

@@ -1,5 +1,5 @@
 -- The headline: a declaration that a line says is accepted is shown by the lines above it.
-use Rattle.std.specs.Prelude.{◌≡◌, ◌==◌, ℕ, Bool, true, not, if◌then◌else◌, List, [], ◌∷◌, ◌++◌, Contains, IsTrue, codes}
+use Rattle.std.specs.Prelude.{◌≡◌, ◌≢◌, ◌==◌, ℕ, Bool, true, not, if◌then◌else◌, List, [], ◌∷◌, ◌++◌, All, Contains, IsTrue, codes}
 use Rattle.theory.specs.Signatures.{Signature, IsPrefix}
 use Rattle.theory.specs.Prelude.{prelude}
 use Rattle.theory.specs.WellFormed.{IsWellFormed}
@@ -8,7 +8,7 @@ use Rattle.clause_reports.specs.elaboration.Functions.{ClauseLine}
 use Rattle.elim_program.specs.ClauseTexts.{clause_lines}
 use Rattle.elim_program.specs.Lines.{lines_of, text_of}
 use Rattle.elim_program.specs.DefinedOutputs.{IsOutput}
-use Rattle.elim_program.specs.Outputs.{Output, accepted_line, head_lines, lines_after}
+use Rattle.elim_program.specs.Outputs.{Output, accepted_line, declared_name, head_lines, lines_after}
 use Rattle.elim_program.specs.Reading.{IsRead}
 use Rattle.elim_program.specs.Written.{IsWritten}
 
@@ -27,17 +27,20 @@ pub data Shows (P : Signature) : Signature → List (List ℕ) → Type 0 where
   none : Shows P P []
   more : (S T : Signature) (lines : List (List ℕ)) → Shows P S lines → IsPrefix S T → Shows P T (lines ++ lines_after S T)
 
--- The declaration is in the file, and over the entries `before` it comes to what is written: the signature `after` it, which is well
--- formed, with one line for each clause of a function. The lines `above` are the head lines, then those that show the entries
--- `before` from the prelude on, and last those of the declaration: its entries and its clauses. The prelude has axiom K only where
--- the words ask for it.
+-- The declaration is the first one of its name in the file, and over the entries `before` it comes to what is written: the signature
+-- `after` it, which is well formed, with one line for each clause of a function. The lines `above` are the head lines, then those that
+-- show the entries `before` from the prelude on, and last those of the declaration: its entries and its clauses. The prelude has axiom K
+-- only where the words ask for it.
 pub record IsShown (words : List (List ℕ)) (bytes : List ℕ) (above : List (List ℕ)) (name : List ℕ) : Type 0 where
   pub k : Bool
   pub asked_for : IsTrue k → Contains words (codes "--k")
   pub decls : List Decl
   pub text : IsRead bytes decls
+  pub front : List Decl
   pub declaration : Decl
-  pub in_text : Contains decls declaration
+  pub back : List Decl
+  pub in_text : decls ≡ front ++ declaration ∷ back
+  pub first : All (λ d. declared_name d ≢ name) front
   pub before : Signature
   pub after : Signature
   pub clauses : List ClauseLine

@@ -5,7 +5,6 @@ use Rattle.theory.specs.Terms.{Term, Var, Sort, Pi, Lam, App, Let, Const, Fam, C
 use Rattle.theory.specs.Signatures.{Signature, Definition}
 use Rattle.theory.specs.SignatureScopes.{HasEntries}
 use Rattle.theory.specs.WellFormed.{IsDefinition, IsWellFormed, pushed}
-use Rattle.theory.specs.WellFormed.IsEntry.{definition}
 use Rattle.core_terms.proofs.Answers.{Answers, and_next-has}
 use Rattle.core_terms.specs.declared.stop.Stop.{Stop}
 use Rattle.core_sig.specs.Drafts.{Draft}

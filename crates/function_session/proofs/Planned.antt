@@ -13,7 +13,7 @@ use Rattle.core_terms.specs.CaseTrees.{Walk}
 use Rattle.case_trees.specs.OwnWalks.{own_walk_of}
 use Rattle.case_trees.specs.Points.{under_solution}
 use Rattle.case_trees.specs.Trees.{split_of}
-use Rattle.core_terms.specs.Answers.{SpentOr, and_next, bounded}
+use Rattle.core_terms.specs.Answers.{and_next, bounded}
 use Rattle.tree_translation.specs.structural_rec.Choices.{choose}
 use Rattle.tree_translation.specs.Entries.{ordered_variables}
 use Rattle.tree_translation.specs.Plans.{Plan, Part}

@@ -1,22 +1,26 @@
 -- A declaration that the elaborator accepts is shown as the headline says.
-use Rattle.std.proofs.Common.{◌≡◌, ℕ, Bool, true, false, List, ◌∷◌, ◌++◌, codes, Ok, IfOk, refl, sym, ap, subst, ◌∙◌, arith}
+use Rattle.std.proofs.Common.{◌≡◌, ℕ, Bool, true, false, List, ◌∷◌, ◌++◌, codes, Ok, refl, sym, ap, subst, ◌∙◌}
 use Rattle.std.specs.Prelude.{Contains, IsTrue, is_some, slice_get}
-use Rattle.std.proofs.lemmas.List.Elements.{Contains-append_right}
 use Rattle.theory.specs.Signatures.{Definition, FamilyOf, Signature}
 use Rattle.theory.specs.WellFormed.{pushed}
 use Rattle.surface_syntax.specs.Trees as surf
-use Rattle.elab_session.specs.Declaring.{Declared, accepted_as}
 use Rattle.elab_session.specs.Sessions.{IsReady}
-use Rattle.function_session.specs.Elaborating.{Elaborated, declared_of, elaborate_of}
+use Rattle.function_session.specs.Elaborating.{Elaborated, elaborate_of}
 use Rattle.function_session.specs.Laws.{IsAsWritten}
-use Rattle.written_functions.specs.Functions.{IsByClauses}
+use Rattle.clause_reports.specs.elaboration.Functions.{planned_of}
+use Rattle.resolve.specs.Functions.{Function}
 use Rattle.written_functions.specs.Laws.{FunctionsAreByClauses}
+use Rattle.written_functions.specs.PlannedFunctions.{IsByPlannedClauses, IsOfPlan}
+use Rattle.written_functions.proofs.equation_laws.LeftShowing.{ok-is}
 use Rattle.elim_program.specs.Acceptance.{AcceptedIsShown, IsAccepted}
 use Rattle.elim_program.specs.Headline.{IsShown}
 use Rattle.elim_program.specs.Outputs.{head_lines}
 use Rattle.elim_program.specs.Written.{IsWritten}
+use Rattle.elim_program.proofs.FirstNames.{first-of_name, plain-name, plain-signature}
+use Rattle.elim_program.proofs.Lines.{if_ok}
 use Rattle.headline.specs.program_laws.Laws.{GivesByTheGrammar}
 use Rattle.headline.specs.FullHeadline.{AcceptedIsTheShown, IsOfTheSame}
+use Rattle.headline.specs.SamePlans.{HasSamePlan}
 
 -- ---- the head lines say whether axiom K is on
 
@@ -35,18 +39,12 @@ same-k j k above xs ys e f = sym (says-its-k j xs) ∙ ap says-k (sym e ∙ f) �
 
 -- ---- the declaration
 
-its-name : (x : List ℕ) (T : Signature) (a : Elaborated) → declared_of a ≡ accepted_as x T → x ≡ a.name
-its-name x T a is = sym (ap (λ (d : Declared). d.name) is)
-
-its-signature : (x : List ℕ) (T : Signature) (a : Elaborated) → declared_of a ≡ accepted_as x T → a.signature ≡ T
-its-signature x T a is = ap (λ (d : Declared). d.signature) is
-
-written : FunctionsAreByClauses → (S : Signature) (fuel : ℕ) (d : surf.Decl) (a : Elaborated) → IsReady S → elaborate_of S fuel d ≡ Ok a → IsAsWritten S d a
-    → IsWritten S d a.name a.signature a.lines
-written by_clauses S fuel (surf.Def x ty body) a ready is own =
+written : FunctionsAreByClauses → (S : Signature) (fuel : ℕ) (d : surf.Decl) (a : Elaborated) (name : List ℕ) → IsReady S → elaborate_of S fuel d ≡ Ok a
+    → IsAsWritten S fuel d a → a.name ≡ name → IsWritten S d name a.signature a.lines
+written by_clauses S fuel (surf.Def x ty body) a name ready is own named =
     let w = own.written in
     let T = pushed S (Definition x.text w.type w.term) in (
-      its-name x.text T a w.accepted,
+      plain-name x.text T a name w.accepted named,
       own.lines,
       record {
         type = w.type;
@@ -54,13 +52,13 @@ written by_clauses S fuel (surf.Def x ty body) a ready is own =
         type_resolved = w.type_resolved;
         body_resolved = w.body_resolved;
         typed = w.typed;
-        added = its-signature x.text T a w.accepted;
+        added = plain-signature x.text T a w.accepted;
       },
     )
-written by_clauses S fuel (surf.Data x params ty cons) a ready is own =
+written by_clauses S fuel (surf.Data x params ty cons) a name ready is own named =
     let w = own.written in
     let T = pushed S (FamilyOf w.entry) in (
-      its-name x.text T a w.accepted,
+      plain-name x.text T a name w.accepted named,
       own.lines,
       record {
         raw = w.raw;
@@ -68,15 +66,30 @@ written by_clauses S fuel (surf.Data x params ty cons) a ready is own =
         resolved = w.resolved;
         given = w.given;
         formed = w.formed;
-        added = its-signature x.text T a w.accepted;
+        added = plain-signature x.text T a w.accepted;
       },
     )
-written by_clauses S fuel (surf.Fun x ty clauses) a ready is own = (
-  its-name x.text a.signature a own.accepted,
-  subst (λ r. IfOk r (λ (b : Elaborated). IsByClauses S x ty clauses b.signature b.lines)) is (by_clauses S fuel x ty clauses ready),
+written by_clauses S fuel (surf.Fun x ty clauses) a name ready is own named = (
+  plain-name x.text a.signature a name own.accepted named,
+  (if_ok (IsByPlannedClauses S fuel x ty clauses) (elaborate_of S fuel (surf.Fun x ty clauses)) a is (by_clauses S fuel x ty clauses ready)).by_clauses,
 )
-written by_clauses S fuel (surf.Decide x family decision) a ready is own = absurd own.written
-written by_clauses S fuel (surf.Mutual params members family tag tags) a ready is own = absurd own.written
+written by_clauses S fuel (surf.Decide x family decision) a name ready is own named = absurd own.written
+written by_clauses S fuel (surf.Mutual params members family tag tags) a name ready is own named = absurd own.written
+
+-- the function has the plan with which it is accepted
+same-plan : (by_clauses : FunctionsAreByClauses) (S : Signature) (fuel : ℕ) (d : surf.Decl) (a : Elaborated) (name : List ℕ) (ready : IsReady S)
+    (is : elaborate_of S fuel d ≡ Ok a) (own : IsAsWritten S fuel d a) (named : a.name ≡ name)
+    → HasSamePlan S name a.signature a.lines d (written by_clauses S fuel d a name ready is own named) S fuel a d own
+unfolding written
+same-plan by_clauses S fuel (surf.Def x ty body) a name ready is own named = tt
+same-plan by_clauses S fuel (surf.Data x params ty cons) a name ready is own named = tt
+same-plan by_clauses S fuel (surf.Fun x ty clauses) a name ready is own named =
+    let b = if_ok (IsByPlannedClauses S fuel x ty clauses) (elaborate_of S fuel (surf.Fun x ty clauses)) a is (by_clauses S fuel x ty clauses ready) in
+    let given : b.by_clauses.given ≡ own.given = ok-is (sym b.by_clauses.resolved ∙ own.resolved) in
+    let plan : b.plan ≡ own.plan = ok-is (sym b.planned ∙ ap (λ (f : Function). (planned_of S f fuel).0) given ∙ own.planned) in
+    subst (λ p. IsOfPlan a.signature p b.by_clauses.at) plan b.of_plan
+same-plan by_clauses S fuel (surf.Decide x family decision) a name ready is own named = absurd own.written
+same-plan by_clauses S fuel (surf.Mutual params members family tag tags) a name ready is own named = absurd own.written
 
 -- ---- the headline
 
@@ -93,14 +106,15 @@ module _ (is_shown : AcceptedIsShown) (grammar : GivesByTheGrammar) (by_clauses 
     asked_for = asks-k;
     decls = a.decls;
     text = (grammar bytes a.decls a.text).0;
+    front = a.front;
     declaration = a.declaration;
-    in_text = subst (λ ds. Contains ds a.declaration) (sym a.in_text)
-        (Contains-append_right a.front (a.declaration ∷ a.back) a.declaration (0, omega arith, refl));
+    back = a.back;
+    in_text = a.in_text;
+    first = first-of_name words bytes above name a;
     before = a.before;
     after = a.accepted.signature;
     clauses = a.accepted.lines;
-    written = subst (λ n. IsWritten a.before a.declaration n a.accepted.signature a.accepted.lines) a.named
-        (written by_clauses a.before a.command.fuel a.declaration a.accepted a.ready a.elaborated a.written);
+    written = written by_clauses a.before a.command.fuel a.declaration a.accepted name a.ready a.elaborated a.written a.named;
     longer = a.longer;
     formed = a.whole.well_formed;
     earlier = a.earlier;
@@ -110,7 +124,16 @@ module _ (is_shown : AcceptedIsShown) (grammar : GivesByTheGrammar) (by_clauses 
 
   same : IsOfTheSame words bytes above name shown a
   unfolding shown
-  same = record { k = refl; decls = refl; declaration = refl; before = refl; after = refl; clauses = refl }
+  same = record {
+    k = refl;
+    decls = refl;
+    front = refl;
+    declaration = refl;
+    before = refl;
+    after = refl;
+    clauses = refl;
+    plan = same-plan by_clauses a.before a.command.fuel a.declaration a.accepted name a.ready a.elaborated a.written a.named;
+  }
 
 pub the-shown : AcceptedIsShown → GivesByTheGrammar → FunctionsAreByClauses → AcceptedIsTheShown
 the-shown is_shown grammar by_clauses words bytes above name a =

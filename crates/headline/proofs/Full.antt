@@ -11,6 +11,7 @@ use Rattle.headline.specs.program_laws.CoreFiles.{IsCoreFile}
 use Rattle.headline.specs.program_laws.Laws.{WithoutK}
 use Rattle.headline.specs.verified_laws.AcceptedLines.{LinesAreCoreFiles, LinesAreReports}
 use Rattle.headline.specs.FullHeadline.{AcceptedIsTheShown, FullHeadline, IsFullyShown, IsOfTheSame}
+use Rattle.headline.proofs.NewEntries.{new-entries}
 
 clauses-lack : LinesLackAxiomK → (words : List (List ℕ)) (bytes : List ℕ) (above : List (List ℕ)) (name : List ℕ) (shown : IsShown words bytes above name)
     (a : IsAccepted words bytes above name) → IsOfTheSame words bytes above name shown a → shown.k ≡ false → LinesLack shown.clauses
@@ -30,6 +31,7 @@ fully-shown the_shown core_files reports no_k lines_lack words bytes text above 
       accepted = a;
       same = both.1;
       reported = reports words bytes above name a;
+      entries = new-entries a.before a.command.fuel a.declaration a.accepted a.elaborated a.written;
     }
 
 pub full : Acceptance → AcceptedIsTheShown → LinesAreCoreFiles → LinesAreReports → WithoutK → LinesLackAxiomK → FullHeadline

@@ -1,3 +1,6 @@
 mod Accepted
+mod Adding
+mod AddingReports
 mod Full
+mod NewEntries
 mod Runs

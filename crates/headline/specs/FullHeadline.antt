@@ -6,20 +6,25 @@ use Rattle.elim_program.specs.Headline.{IsShown}
 use Rattle.elim_program.specs.Lines.{lines_of, text_of}
 use Rattle.elim_program.specs.Outputs.{Output, accepted_line}
 use Rattle.k_laws.specs.Lines.{LinesLack}
+use Rattle.headline.specs.NewEntries.{AreNewEntries}
+use Rattle.headline.specs.SamePlans.{HasSamePlan}
 use Rattle.headline.specs.program_laws.CoreFiles.{IsCoreFile}
 use Rattle.headline.specs.program_laws.WithoutK.{AreWithoutK}
 use Rattle.headline.specs.verified_laws.AcceptedLines.{IsReported}
 
 -- The headline and the elaborator speak of the same declaration of the source file, over the same entries, with the same signature
--- after it and the same clauses.
+-- after it and the same clauses, and of the same plan of a function.
 pub record IsOfTheSame (words : List (List ℕ)) (bytes : List ℕ) (above : List (List ℕ)) (name : List ℕ) (shown : IsShown words bytes above name)
     (accepted : IsAccepted words bytes above name) : Type 0 where
   pub k : shown.k ≡ accepted.command.k
   pub decls : shown.decls ≡ accepted.decls
+  pub front : shown.front ≡ accepted.front
   pub declaration : shown.declaration ≡ accepted.declaration
   pub before : shown.before ≡ accepted.before
   pub after : shown.after ≡ accepted.accepted.signature
   pub clauses : shown.clauses ≡ accepted.accepted.lines
+  pub plan : HasSamePlan shown.before name shown.after shown.clauses shown.declaration shown.written accepted.before accepted.command.fuel
+      accepted.accepted accepted.declaration accepted.written
 
 -- The headline, and what more is known of the same declaration.
 -- `core_file`: the lines above are a core file. What is read from it, entry by entry up to its end, is the signature after the
@@ -28,14 +33,16 @@ pub record IsOfTheSame (words : List (List ℕ)) (bytes : List ℕ) (above : Lis
 -- holds K.
 -- `accepted`: the elaborator accepts the declaration with these clauses; the leaves of each clause that is shadowed are those of the tree
 -- in the function's plan.
--- `reported`: the line of each clause is the clause's report.
+-- `reported`: the line of each clause is the clause's report in this plan.
+-- `entries`: each entry that a function adds is the one that its name stands for, with the type and the term that are written for this name.
 pub record IsFullyShown (words : List (List ℕ)) (bytes : List ℕ) (above : List (List ℕ)) (name : List ℕ) : Type 0 where
   pub shown : IsShown words bytes above name
   pub core_file : IsCoreFile shown.k (text_of above) shown.after
   pub without_k : shown.k ≡ false → AreWithoutK above shown.after × LinesLack shown.clauses
   pub accepted : IsAccepted words bytes above name
   pub same : IsOfTheSame words bytes above name shown accepted
-  pub reported : IsReported accepted.before accepted.declaration accepted.accepted
+  pub reported : IsReported accepted.before accepted.command.fuel accepted.declaration accepted.accepted accepted.written
+  pub entries : AreNewEntries accepted.before accepted.command.fuel accepted.declaration accepted.accepted accepted.written
 
 -- if a whole line of the text says that a declaration is accepted, the lines above show it in full
 abbrev pub IsFullHeadline : List (List ℕ) → List ℕ → List ℕ → Type 0

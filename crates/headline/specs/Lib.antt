@@ -5,3 +5,5 @@ pub mod writing_laws
 pub mod verified_laws
 pub mod FullHeadline
 pub mod Runs
+pub mod NewEntries
+pub mod SamePlans

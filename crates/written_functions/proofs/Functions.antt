@@ -1,5 +1,5 @@
 -- A function by clauses that is accepted is as it is written.
-use Rattle.std.proofs.Common.{◌≡◌, ℕ, zero, suc, ◌+◌, ◌<◌, ◌≤◌, List, [], ◌∷◌, length, length-append, Ok, Err, IfOk, refl, sym, ap, ◌∙◌, subst as transport, arith, ap₂, true}
+use Rattle.std.proofs.Common.{◌≡◌, ℕ, zero, suc, ◌+◌, ◌<◌, ◌≤◌, List, [], ◌∷◌, drop, length, length-append, Ok, Err, IfOk, refl, sym, ap, ◌∙◌, subst as transport, arith, ap₂, true}
 use Rattle.theory.specs.Terms.{Term}
 use Rattle.theory.specs.Signatures.{Definition, IsPrefix, Signature}
 use Rattle.theory.specs.SignatureScopes.{IsScoped}
@@ -16,14 +16,16 @@ use Rattle.tree_translation.specs.Plans.{Plan, Part, own_part}
 use Rattle.clause_reports.specs.Equations.{part_named, part_at}
 use Rattle.theory.proofs.Lists.{slice_get-last}
 use Rattle.clause_reports.proofs.Keeping.{Grows, grows_on, weaker, weaker-of-two, grows_same}
-use Rattle.clause_reports.specs.elaboration.Functions.{Lines, enter_plan, function_level, function_of, plan_of, report_parts, first_domains, recursion_in}
+use Rattle.clause_reports.specs.elaboration.Functions.{Lines, enter_plan, function_level, function_of, plan_of, planned_of, report_parts, first_domains, recursion_in}
 use Rattle.clause_reports.specs.elaboration.Refusals.{Elaborating, OfType, answers, granted}
 use Rattle.family_check.specs.Scopes.{HasPrelude}
 use Rattle.written_functions.proofs.equation_laws.LeftShowing.{ok-is}
 use Rattle.function_session.proofs.function_lines.FunctionAnswers.{function-answers}
 use Rattle.function_session.proofs.function_lines.Provisional.{provisional-over}
 use Rattle.function_session.specs.function_lines.FunctionMade.{function_made}
+use Rattle.function_session.specs.function_lines.Conditions.{IsFunctionOver}
 use Rattle.function_session.proofs.OwnEntry.{HasOwn, own-typed}
+use Rattle.function_session.proofs.Planned.{function-planned}
 use Rattle.function_session.proofs.Written.{elaborates-written, function-new, function-scoped}
 use Rattle.function_session.specs.Elaborating.{Elaborated, elaborate_function, enter_function, on_lines, with_lines}
 use Rattle.function_session.specs.Laws.{IsWrittenFunction}
@@ -31,7 +33,7 @@ use Rattle.function_session.proofs.Keeping.{on_function-has}
 use Rattle.elab_session.specs.Declaring.{accepted_as}
 use Rattle.resolve.specs.Functions.{Function, function}
 use Rattle.written_functions.specs.Clauses.{AreLinesOf, Start, parts_of, placed_from, AreValues, IsStarted, Values, part_type}
-use Rattle.written_functions.specs.Functions.{IsByClauses}
+use Rattle.written_functions.specs.PlannedFunctions.{IsByPlannedClauses, IsOfPlan}
 use Rattle.written_functions.specs.Laws.{FunctionsAreByClauses}
 use Rattle.written_functions.proofs.Equations.{placed_at, start_in}
 use Rattle.written_functions.proofs.PartEntries.{HasType}
@@ -53,8 +55,8 @@ use Rattle.written_functions.proofs.PlanFacts.{HasFacts, made-unmarked, plan-fac
 
 -- ---- the function
 
--- the facts of the lines of a function
-record IsTold (S : Signature) (f : Function) (l : Lines) : Type 0 where
+-- the facts of the lines of a function that may spend so many units
+record IsTold (S : Signature) (f : Function) (fuel : ℕ) (l : Lines) : Type 0 where
   with_plan : Signature
   own : HasOwn S f.name f.type with_plan
   grown : Grows with_plan l.signature
@@ -64,6 +66,9 @@ record IsTold (S : Signature) (f : Function) (l : Lines) : Type 0 where
   values_are : AreValues l.signature (record { before = S; function = f; parts = parts; values = values }) own.body values
   told : AreLinesOf (pushed own.before (Definition f.name f.type own.body)) l.signature (record { before = S; function = f; parts = parts; values = values })
       (placed_from 0 (parts_of f)) l.lines
+  plan : Plan
+  planned : (planned_of S f fuel).0 ≡ Ok plan
+  of_plan : IsOfPlan l.signature plan (record { before = S; function = f; parts = parts; values = values })
 
 -- a signature that grows is longer
 pub pushed-longer : (S B T : Signature) (name : List ℕ) (type body : Term) → Grows S B → Grows (pushed B (Definition name type body)) T
@@ -123,9 +128,20 @@ own-started S f plan h =
       columns = ap (λ (p : Part). p.terms) same ∙ ap (λ (q : Opened). q.terms) h.own_opened;
     }
 
-plan-told : (S : Signature) (f : Function) (plan : Plan) (T : Signature) (left : ℕ) → IsWellFormed S → HasPrelude S → IsScoped S 0 f.type
-    → IsPlanGiven S f plan → HasPlan S f plan T → Answers (IsTold S f) (report_parts plan 0 plan.parts T left)
-plan-told S f plan T left well first typed h there =
+-- a plan with helpers is that of a function with clauses inside a `with`
+some-inside : (S : Signature) (f : Function) (plan : Plan) → IsPlanGiven S f plan → 1 < length plan.parts → 1 < length (parts_of f)
+some-inside S f plan h low =
+    omega (
+      arith,
+      low,
+      helpers-count S f plan h,
+      ap length h.parts,
+      ap (λ (ps : List Part). length (drop 1 ps)) h.parts,
+    )
+
+plan-told : (S : Signature) (f : Function) (fuel : ℕ) (plan : Plan) (T : Signature) (left : ℕ) → IsWellFormed S → HasPrelude S → IsScoped S 0 f.type
+    → IsPlanGiven S f plan → (planned_of S f fuel).0 ≡ Ok plan → HasPlan S f plan T → Answers (IsTold S f fuel) (report_parts plan 0 plan.parts T left)
+plan-told S f fuel plan T left well first typed h planned there =
     let own = there.own in
     let Own = pushed own.before (Definition f.name f.type own.body) in
     let g : Grows S T = grows_on S own.before T own.longer (grows_on own.before Own T own.enters own.entered) in
@@ -140,7 +156,7 @@ plan-told S f plan T left well first typed h there =
       parts = parts-there S f plan T h typed own there.made;
     } in
     let last = values-last S f plan h typed T own.body there.made in
-    weaker (Tells S Own f plan h values T last T (placed_from 0 (parts_of f))) (IsTold S f) (report_parts plan 0 plan.parts T left).0
+    weaker (Tells S Own f plan h values T last T (placed_from 0 (parts_of f))) (IsTold S f fuel) (report_parts plan 0 plan.parts T left).0
     (λ l r. record {
       with_plan = T;
       own = own;
@@ -150,24 +166,55 @@ plan-told S f plan T left well first typed h there =
       values = values;
       values_are = values-are S f plan h typed T own.body there.made l.signature (r.grows.keeps base.well base.prelude) r.grows.prefix;
       told = r.told;
+      plan = plan;
+      planned = planned;
+      of_plan = record {
+        parts = λ k low. refl;
+        values = λ some. last l.signature (r.grows.keeps base.well base.prelude) r.grows.prefix (some-inside S f plan h some);
+      };
     })
     (parts-tell S Own f plan h values T last 0 plan.parts (parts_of f) (parts-placed S f plan h) T left base)
 
+-- the facts of a plan that the function's type and clauses give
+record IsPlanFor (S : Signature) (f : Function) (plan : Plan) : Type 0 where
+  level : ℕ
+  left : ℕ
+  has : HasLevel S f level
+  is : (plan_of S f level left).0 ≡ Ok plan
+  given : IsPlanGiven S f plan
+
+planned-for : (S : Signature) (f : Function) (fuel : ℕ) → IsFunctionOver (provisional S f.name f.type) f
+    → Answers (λ (plan : Plan). ((planned_of S f fuel).0 ≡ Ok plan) × IsPlanFor S f plan) (planned_of S f fuel)
+planned-for S f fuel over =
+    let P = IsPlanFor S f in
+    let found = granted S OfType (infer_sort_of S nesting [] f.type fuel) in
+    with-ok P (planned_of S f fuel).0
+    (and_next-has (λ sort. found.0 ≡ Ok sort) P found _ (is-ok found.0) (λ sort rest e1.
+    and_next-has (λ level. function_level S sort ≡ Ok level) P (answers (function_level S sort) rest) _ (is-ok (function_level S sort)) (λ level more e2.
+    let made = plan_of S f level more in
+    weaker (λ plan. (made.0 ≡ Ok plan) × IsPlanGiven S f plan) P made.0
+    (λ plan h. record {
+      level = level;
+      left = more;
+      has = record { fuel = fuel; sort = sort; granted_sort = e1; is_level = e2 };
+      is = h.0;
+      given = h.1;
+    })
+    (with-ok (IsPlanGiven S f) made.0 (plan-given S f level more over)))))
+
 function-told : (S : Signature) (f : Function) (fuel : ℕ) → IsReady S → IsResolvedFunction S (provisional S f.name f.type) f → unmarked S ≡ true
-    → Answers (IsTold S f) (function_of S f fuel)
+    → Answers (IsTold S f fuel) (function_of S f fuel)
 function-told S f fuel ready resolved marks =
-    let P = IsTold S f in
+    let P = IsTold S f fuel in
     let over = provisional-over S f ready resolved in
     let typed = resolved.type.scoped in
-    let found = granted S OfType (infer_sort_of S nesting [] f.type fuel) in
-    and_next-has (λ sort. found.0 ≡ Ok sort) P found _ (is-ok found.0) (λ sort rest e1.
-    and_next-has (λ level. function_level S sort ≡ Ok level) P (answers (function_level S sort) rest) _ (is-ok (function_level S sort)) (λ level more e2.
-    let has : HasLevel S f level = record { fuel = fuel; sort = sort; granted_sort = e1; is_level = e2 } in
-    let made = plan_of S f level more in
-    and_next-has (λ plan. (made.0 ≡ Ok plan) × IsPlanGiven S f plan) P made _ (with-ok (IsPlanGiven S f) made.0 (plan-given S f level more over)) (λ plan end h.
-    let facts = plan-facts S f level more plan ready over resolved marks has h.0 in
-    and_next-has (HasPlan S f plan) P (enter_plan S plan end) _ (plan-made S f plan end ready.well_formed ready.prelude h.1 typed facts) (λ T last there.
-    plan-told S f plan T last ready.well_formed ready.prelude typed h.1 there))))
+    transport (λ (r : Elaborating Lines). Answers P r) (sym (function-planned S f fuel))
+    (and_next-has (λ (plan : Plan). ((planned_of S f fuel).0 ≡ Ok plan) × IsPlanFor S f plan) P (planned_of S f fuel) _ (planned-for S f fuel over)
+    (λ plan end h.
+    let p = h.1 in
+    let facts = plan-facts S f p.level p.left plan ready over resolved marks p.has p.is in
+    and_next-has (HasPlan S f plan) P (enter_plan S plan end) _ (plan-made S f plan end ready.well_formed ready.prelude p.given typed facts) (λ T last there.
+    plan-told S f fuel plan T last ready.well_formed ready.prelude typed p.given h.0 there)))
 
 -- ---- the declaration
 
@@ -187,59 +234,66 @@ made-has P S x fuel f h = by (function_made S f fuel) refl
     by (Err e, left) is = tt
 
 -- the facts of the lines, with the function that was resolved
-record IsLined (S : Signature) (x : Word) (ty : surf.Surf) (clauses : surf.Clauses) (a : Elaborated) : Type 0 where
+record IsLined (S : Signature) (fuel : ℕ) (x : Word) (ty : surf.Surf) (clauses : surf.Clauses) (a : Elaborated) : Type 0 where
   given : Function
   resolved : function S x ty clauses ≡ Ok given
   lines : Lines
   is : a ≡ with_lines (accepted_as x.text lines.signature) lines.lines
-  told : IsTold S given lines
+  told : IsTold S given fuel lines
 
-lined : (S : Signature) (fuel : ℕ) (x : Word) (ty : surf.Surf) (cs : surf.Clauses) → IsReady S → IfOk (elaborate_function S fuel x ty cs) (IsLined S x ty cs)
+lined : (S : Signature) (fuel : ℕ) (x : Word) (ty : surf.Surf) (cs : surf.Clauses) → IsReady S
+    → IfOk (elaborate_function S fuel x ty cs) (IsLined S fuel x ty cs)
 lined S fuel x ty cs ready =
-    on_function-has (IsLined S x ty cs) (function S x ty cs) (enter_function S fuel x) (λ f is.
-    made-has (IsLined S x ty cs) S x fuel f (λ marks.
-    weaker (IsTold S f) (λ (l : Lines). IsLined S x ty cs (with_lines (accepted_as x.text l.signature) l.lines)) (function_of S f fuel).0
+    let P = IsLined S fuel x ty cs in
+    on_function-has P (function S x ty cs) (enter_function S fuel x) (λ f is.
+    made-has P S x fuel f (λ marks.
+    weaker (IsTold S f fuel) (λ (l : Lines). P (with_lines (accepted_as x.text l.signature) l.lines)) (function_of S f fuel).0
     (λ l h. record { given = f; resolved = is; lines = l; is = refl; told = h })
     (function-told S f fuel ready (function-scoped S (surf.Fun x ty cs) f is) marks)))
 
-written : (S : Signature) (x : Word) (ty : surf.Surf) (cs : surf.Clauses) (a : Elaborated) → IsReady S → IsWrittenFunction S x ty cs a → IsLined S x ty cs a
-    → IsByClauses S x ty cs a.signature a.lines
-written S x ty cs a ready w l =
+written : (S : Signature) (fuel : ℕ) (x : Word) (ty : surf.Surf) (cs : surf.Clauses) (a : Elaborated) → IsReady S → IsWrittenFunction S fuel x ty cs a
+    → IsLined S fuel x ty cs a → IsByPlannedClauses S fuel x ty cs a
+written S fuel x ty cs a ready w l =
     let f = l.given in
     let t = l.told in
     let new = function-new S x ty cs f l.resolved in
     let same : w.given ≡ f = ok-is (sym w.resolved ∙ l.resolved) in
     let Own = pushed t.own.before (Definition f.name f.type t.own.body) in
-    transport (λ (b : Elaborated). IsByClauses S x ty cs b.signature b.lines) (sym l.is)
+    transport (IsByPlannedClauses S fuel x ty cs) (sym l.is)
     (record {
-      given = f;
-      resolved = l.resolved;
-      type_resolved = new.type;
-      type_sort = transport (λ (g : Function). HasSort S [] g.type) same w.type_sort;
-      before = t.own.before;
-      body = t.own.body;
-      longer = t.own.longer.prefix;
-      typed = own-typed S t.with_plan f.name f.type t.own ready.well_formed ready.prelude;
-      entered =
-          transport (λ name. IsPrefix (pushed t.own.before (Definition name f.type t.own.body)) l.lines.signature) new.name
-          (grows_on Own t.with_plan l.lines.signature t.own.entered t.grown).prefix;
-      at = record { before = S; function = f; parts = t.parts; values = t.values };
-      is_at = (refl, refl);
-      started = t.started;
-      values = t.values_are;
-      each_line =
-          transport
-          (λ name.
-          AreLinesOf (pushed t.own.before (Definition name f.type t.own.body)) l.lines.signature
-          (record { before = S; function = f; parts = t.parts; values = t.values }) (placed_from 0 (parts_of f)) l.lines.lines)
-          new.name t.told;
+      by_clauses = record {
+        given = f;
+        resolved = l.resolved;
+        type_resolved = new.type;
+        type_sort = transport (λ (g : Function). HasSort S [] g.type) same w.type_sort;
+        before = t.own.before;
+        body = t.own.body;
+        longer = t.own.longer.prefix;
+        typed = own-typed S t.with_plan f.name f.type t.own ready.well_formed ready.prelude;
+        entered =
+            transport (λ name. IsPrefix (pushed t.own.before (Definition name f.type t.own.body)) l.lines.signature) new.name
+            (grows_on Own t.with_plan l.lines.signature t.own.entered t.grown).prefix;
+        at = record { before = S; function = f; parts = t.parts; values = t.values };
+        is_at = (refl, refl);
+        started = t.started;
+        values = t.values_are;
+        each_line =
+            transport
+            (λ name.
+            AreLinesOf (pushed t.own.before (Definition name f.type t.own.body)) l.lines.signature
+            (record { before = S; function = f; parts = t.parts; values = t.values }) (placed_from 0 (parts_of f)) l.lines.lines)
+            new.name t.told;
+      };
+      plan = t.plan;
+      planned = t.planned;
+      of_plan = t.of_plan;
     })
 
 pub by-clauses : (S : Signature) (fuel : ℕ) (x : Word) (ty : surf.Surf) (cs : surf.Clauses) → IsReady S
-    → IfOk (elaborate_function S fuel x ty cs) (λ (a : Elaborated). IsByClauses S x ty cs a.signature a.lines)
+    → IfOk (elaborate_function S fuel x ty cs) (IsByPlannedClauses S fuel x ty cs)
 by-clauses S fuel x ty cs ready =
-    weaker-of-two (IsWrittenFunction S x ty cs) (IsLined S x ty cs) (λ (a : Elaborated). IsByClauses S x ty cs a.signature a.lines) (elaborate_function S fuel x ty cs)
-    (elaborates-written S fuel (surf.Fun x ty cs) ready) (lined S fuel x ty cs ready) (λ a w l. written S x ty cs a ready w l)
+    weaker-of-two (IsWrittenFunction S fuel x ty cs) (IsLined S fuel x ty cs) (IsByPlannedClauses S fuel x ty cs) (elaborate_function S fuel x ty cs)
+    (elaborates-written S fuel (surf.Fun x ty cs) ready) (lined S fuel x ty cs ready) (λ a w l. written S fuel x ty cs a ready w l)
 
 pub functions-are-by-clauses : FunctionsAreByClauses
 functions-are-by-clauses S fuel x ty cs ready = by-clauses S fuel x ty cs ready

@@ -3,3 +3,4 @@ pub mod Clauses
 pub mod Fitting
 pub mod Functions
 pub mod Laws
+pub mod PlannedFunctions

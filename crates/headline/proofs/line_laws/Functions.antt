@@ -11,13 +11,14 @@ use Rattle.elab_session.proofs.Resolved.{prelude-stays}
 use Rattle.elab_session.specs.Declaring.{accepted_as}
 use Rattle.tree_translation.specs.Plans.{Plan}
 use Rattle.clause_reports.proofs.Keeping.{Any, any, Grows, grows_on, weaker}
-use Rattle.clause_reports.specs.elaboration.Functions.{Lines, enter_plan, function_level, function_of, plan_of, report_parts}
-use Rattle.clause_reports.specs.elaboration.Refusals.{OfType, granted}
+use Rattle.clause_reports.specs.elaboration.Functions.{Lines, enter_plan, function_level, function_of, planned_of, report_parts}
+use Rattle.clause_reports.specs.elaboration.Refusals.{Elaborating, OfType, granted}
 use Rattle.family_check.specs.Scopes.{HasPrelude}
 use Rattle.function_session.proofs.function_lines.Provisional.{provisional-over}
 use Rattle.function_session.specs.function_lines.Conditions.{IsFunctionOver}
 use Rattle.function_session.proofs.Keeping.{function-has}
 use Rattle.function_session.proofs.OwnEntry.{HasOwn, plan-enters}
+use Rattle.function_session.proofs.Planned.{function-planned}
 use Rattle.function_session.proofs.Written.{function-scoped, itself}
 use Rattle.function_session.specs.Elaborating.{with_lines}
 use Rattle.function_session.specs.Evidence.{references_from}
@@ -41,51 +42,50 @@ base-there S T f plan p well first h = record {
   low = omega (arith, p.base, pushed-longer S h.before T plan.name plan.type h.body h.longer h.entered);
 }
 
--- a plan that is known
-record IsKnown (S : Signature) (f : Function) (level left : ℕ) (plan : Plan) : Type 0 where
+-- the plan of a function that may spend so many units
+record IsKnown (S : Signature) (f : Function) (fuel : ℕ) (plan : Plan) : Type 0 where
   scoped : IsPlanScoped S f plan
-  planned : (plan_of S f level left).0 ≡ Ok plan
+  planned : (planned_of S f fuel).0 ≡ Ok plan
 
-plan-known : (S : Signature) (f : Function) (level left : ℕ) → IsFunctionOver (with_own S f) f → Answers (IsKnown S f level left) (plan_of S f level left)
-plan-known S f level left over =
-    itself (IsPlanScoped S f) (IsKnown S f level left) (plan_of S f level left).0 (plan-scoped S f level left over)
+plan-known : (S : Signature) (f : Function) (fuel : ℕ) → IsFunctionOver (with_own S f) f → Answers (IsKnown S f fuel) (planned_of S f fuel)
+plan-known S f fuel over =
+    let P = IsPlanScoped S f in
+    let found = granted S OfType (infer_sort_of S nesting [] f.type fuel) in
+    itself P (IsKnown S f fuel) (planned_of S f fuel).0
+    (and_next-has Any P found _ (any found.0) (λ sort rest u.
+    and_next-has Any P (function_level S sort, rest) _ (any (function_level S sort)) (λ level more v. plan-scoped S f level more over)))
     (λ plan p is. record { scoped = p; planned = is })
 
 function-reports-over : (S : Signature) (f : Function) (fuel : ℕ) → IsWellFormed S → HasPrelude S → HasEntries S f.type → IsFunctionOver (with_own S f) f
-    → Answers (HasReports S f) (function_of S f fuel)
+    → Answers (HasReports S f fuel) (function_of S f fuel)
 function-reports-over S f fuel well first entries over =
-    let P = HasReports S f in
-    let found = granted S OfType (infer_sort_of S nesting [] f.type fuel) in
-    and_next-has Any P found _ (any found.0) (λ sort rest u.
-    and_next-has Any P (function_level S sort, rest) _ (any (function_level S sort)) (λ level more v.
-    and_next-has (IsKnown S f level more) P (plan_of S f level more) _ (plan-known S f level more over) (λ plan end k.
+    let P = HasReports S f fuel in
+    transport (λ (r : Elaborating Lines). Answers P r) (sym (function-planned S f fuel))
+    (and_next-has (IsKnown S f fuel) P (planned_of S f fuel) _ (plan-known S f fuel over) (λ plan end k.
     let p = k.scoped in
     and_next-has (HasOwn S plan.name plan.type) P (enter_plan S plan end) _
     (plan-enters S plan end p.base (transport (HasEntries S) (sym p.type) entries)) (λ T last own.
     let g = grown S T f plan p own in
     weaker (AreReports T plan (references_from 0 plan.parts)) P (report_parts plan 0 plan.parts T last).0
     (λ l r. record {
-      level = level;
-      left = more;
       plan = plan;
       planned = k.planned;
       lines = lines-from S T l.signature plan (references_from 0 plan.parts) l.lines g.prefix r.evidence;
     })
-    (parts-report S f plan p 0 plan.parts p.walks T last (base-there S T f plan p well first own))))))
+    (parts-report S f plan p 0 plan.parts p.walks T last (base-there S T f plan p well first own)))))
 
 pub function-reports : FunctionReports
 function-reports S f fuel well first entries over = function-reports-over S f fuel well first entries over
 
 pub declaration-reports : DeclarationReports
 declaration-reports S fuel x ty cs ready =
-    function-has (HasReportedLines S x ty cs) S fuel x ty cs (λ f is.
+    let P = HasReportedLines S fuel x ty cs in
+    function-has P S fuel x ty cs (λ f is.
     let scoped = function-scoped S (surf.Fun x ty cs) f is in
-    weaker (HasReports S f) (λ (l : Lines). HasReportedLines S x ty cs (with_lines (accepted_as x.text l.signature) l.lines)) (function_of S f fuel).0
+    weaker (HasReports S f fuel) (λ (l : Lines). P (with_lines (accepted_as x.text l.signature) l.lines)) (function_of S f fuel).0
     (λ l h. record {
       given = f;
       resolved = is;
-      level = h.level;
-      left = h.left;
       plan = h.plan;
       planned = h.planned;
       lines = h.lines;

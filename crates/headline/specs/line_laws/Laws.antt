@@ -8,7 +8,7 @@ use Rattle.core_terms.specs.Patterns.{Pats}
 use Rattle.case_trees.specs.Places.{clause_at}
 use Rattle.clause_reports.specs.Equations.{part_at, pats_of}
 use Rattle.elab_session.specs.Sessions.{IsReady}
-use Rattle.clause_reports.specs.elaboration.Functions.{Lines, function_of, plan_of}
+use Rattle.clause_reports.specs.elaboration.Functions.{Lines, function_of, plan_of, planned_of}
 use Rattle.family_check.specs.Scopes.{HasPrelude}
 use Rattle.function_session.specs.function_lines.Conditions.{IsFunctionOver}
 use Rattle.function_session.specs.Elaborating.{Elaborated, elaborate_of}
@@ -20,34 +20,30 @@ use Rattle.tree_translation.specs.Plans.{Plan}
 use Rattle.headline.specs.line_laws.Lines.{AreReported}
 use Rattle.written_functions.specs.Clauses.{with_own, parts_of}
 
--- the lines of a function, with its plan, over the signature S before it
-pub record HasReports (S : Signature) (f : Function) (l : Lines) : Type 0 where
-  pub level : ℕ
-  pub left : ℕ
+-- the lines of a function that may spend so many units, with its plan, over the signature S before it
+pub record HasReports (S : Signature) (f : Function) (fuel : ℕ) (l : Lines) : Type 0 where
   pub plan : Plan
-  pub planned : (plan_of S f level left).0 ≡ Ok plan
+  pub planned : (planned_of S f fuel).0 ≡ Ok plan
   pub lines : AreReported S l.signature plan (references_from 0 plan.parts) l.lines
 
 abbrev pub FunctionReports : Type 0
 FunctionReports =
     (S : Signature) (f : Function) (fuel : ℕ) → IsWellFormed S → HasPrelude S → HasEntries S f.type →
     IsFunctionOver (with_own S f) f →
-    IfOk (function_of S f fuel).0 (HasReports S f)
+    IfOk (function_of S f fuel).0 (HasReports S f fuel)
 
 -- the lines that were added for a function that is written by clauses
-pub record HasReportedLines (S : Signature) (x : Word) (ty : surf.Surf) (clauses : surf.Clauses) (a : Elaborated) : Type 0 where
+pub record HasReportedLines (S : Signature) (fuel : ℕ) (x : Word) (ty : surf.Surf) (clauses : surf.Clauses) (a : Elaborated) : Type 0 where
   pub given : Function
   pub resolved : function S x ty clauses ≡ Ok given
-  pub level : ℕ
-  pub left : ℕ
   pub plan : Plan
-  pub planned : (plan_of S given level left).0 ≡ Ok plan
+  pub planned : (planned_of S given fuel).0 ≡ Ok plan
   pub lines : AreReported S a.signature plan (references_from 0 plan.parts) a.lines
 
 abbrev pub DeclarationReports : Type 0
 DeclarationReports =
     (S : Signature) (fuel : ℕ) (x : Word) (ty : surf.Surf) (clauses : surf.Clauses) → IsReady S →
-    IfOk (elaborate_of S fuel (surf.Fun x ty clauses)) (HasReportedLines S x ty clauses)
+    IfOk (elaborate_of S fuel (surf.Fun x ty clauses)) (HasReportedLines S fuel x ty clauses)
 
 -- ---- the plan
 

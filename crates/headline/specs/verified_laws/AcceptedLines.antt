@@ -3,21 +3,23 @@ use Rattle.std.specs.Prelude.{◌≡◌, ℕ, List, [], ◌++◌}
 use Rattle.theory.specs.Signatures.{Signature}
 use Rattle.surface_syntax.specs.Trees as surf
 use Rattle.function_session.specs.Elaborating.{Elaborated}
-use Rattle.headline.specs.line_laws.Laws.{HasReportedLines}
+use Rattle.function_session.specs.Evidence.{references_from}
+use Rattle.function_session.specs.Laws.{IsAsWritten}
+use Rattle.headline.specs.line_laws.Lines.{AreReported}
 use Rattle.elim_program.specs.Acceptance.{IsAccepted}
 use Rattle.elim_program.specs.Lines.{lines_of, text_of}
 use Rattle.headline.specs.program_laws.CoreFiles.{IsCoreFile, IsWritable}
 
--- The lines of a function's clauses are the reports of its clauses. Another declaration has no clauses.
-abbrev pub IsReported : Signature → surf.Decl → Elaborated → Type 0
-IsReported S (surf.Fun x ty clauses) a = HasReportedLines S x ty clauses a
-IsReported S d a = a.lines ≡ []
+-- The lines of a function's clauses are the reports of its clauses in the plan of the run. Another declaration has no clauses.
+abbrev pub IsReported : (S : Signature) (fuel : ℕ) (d : surf.Decl) (a : Elaborated) → IsAsWritten S fuel d a → Type 0
+IsReported S fuel (surf.Fun x ty clauses) a w = AreReported S a.signature w.plan (references_from 0 w.plan.parts) a.lines
+IsReported S fuel d a w = a.lines ≡ []
 
 -- Where a line says that a declaration is accepted, the lines of its clauses are their reports.
 abbrev pub LinesAreReports : Type 0
 LinesAreReports =
     (words : List (List ℕ)) (bytes : List ℕ) (above : List (List ℕ)) (name : List ℕ) → (a : IsAccepted words bytes above name)
-    → IsReported a.before a.declaration a.accepted
+    → IsReported a.before a.command.fuel a.declaration a.accepted a.written
 
 -- Its entries, with those before them, can be written in a core file.
 abbrev pub LinesAreWritable : Type 0
