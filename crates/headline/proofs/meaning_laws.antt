@@ -1,1 +1,2 @@
+mod Completions
 pub mod Meanings

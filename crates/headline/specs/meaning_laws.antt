@@ -1,2 +1,3 @@
+pub mod Complete
 pub mod Laws
 pub mod Meant

@@ -1,4 +1,5 @@
 //! The lines that the program writes for a source file are those that are meant.
+ghost use Rattle.headline.specs.meaning_laws.Complete.{EachIsAnswered, RunsAgree, WholeIsMeant};
 ghost use Rattle.headline.specs.meaning_laws.Laws.{CompiledIsMeant, LinesAreMeant, RunIsMeant, WorkIsMeant};
 
 use function_laws::declaration_laws::text_is_meant;
@@ -30,3 +31,22 @@ pub fn run_is_meant()
 {
     compiled_is_meant();
 }
+
+/// An output that is written whole is the one that is meant, whatever the words ask for.
+pub fn whole_is_meant()
+    ensures { WholeIsMeant }
+{
+    compiled_is_meant();
+    work_is_meant();
+}
+
+/// In it each declaration that its phases accept is accepted, as long as those before it are, and the first that they refuse is refused
+/// with this refusal.
+pub fn each_is_answered()
+    ensures { EachIsAnswered }
+{}
+
+/// What is written whole, and the status, follow from the words and the bytes alone.
+pub fn runs_agree()
+    ensures { RunsAgree }
+{}

@@ -1,10 +1,11 @@
 ghost use Rattle.std.specs.Prelude.{◌≡◌, ◌≢◌, map, IsTrue, not, string_bytes};
 ghost use Rattle.core_terms.specs.Count.{Rose};
-ghost use Rattle.elim_program.specs.Runs.{IsWhole};
 ghost use Rattle.elim_program.specs.Words.{asks_for_source};
 ghost use Rattle.headline.specs.Runs.{HasRun};
+ghost use Rattle.headline.specs.meaning_laws.Complete.{IsMeantWhole};
 
 use crate::laws::full_headline;
+use crate::meaning_laws::whole_is_meant;
 use elim_ports::{Sink, Source};
 use elim_program::Status;
 use std::alloc::Global;
@@ -28,10 +29,13 @@ pub fn run<S: Source, K: Sink>(
     ensures runs { HasRun (map string_bytes words.now) (S.left source.old) (K.written sink.old) (K.written sink.new) result }
     ensures read_fault { result ≡ Status.ReadFault → Rose (S.faults source.old) (S.faults source.new) }
     ensures write_fault { result ≡ Status.WriteFault → Rose (K.faults sink.old) (K.faults sink.new) }
+    // If no device fails and memory suffices, the whole output was written, and it is the one that is meant: each declaration
+    // is accepted or refused as its phases are defined.
     ensures complete { (Rose (S.faults source.old) (S.faults source.new) → ⊥) → (Rose (K.faults sink.old) (K.faults sink.new) → ⊥) → result ≢ Status.NoMemory
-        → IsWhole (map string_bytes words.now) (S.left source.old) (K.written sink.old) (K.written sink.new) result }
+        → IsMeantWhole (map string_bytes words.now) (S.left source.old) (K.written sink.old) (K.written sink.new) result }
     ensures unread { IsTrue (not (asks_for_source (map string_bytes words.now))) → source.new ≡ source.old }
 {
     full_headline();
+    whole_is_meant();
     elim_program::run(alloc, words, source, sink)
 }
