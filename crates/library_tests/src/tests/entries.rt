@@ -25,11 +25,23 @@ fn is_family(sig: &Signature, n: u32) -> bool
 }
 
 fn units() -> Units {
-    Units { left: 1000, spent: 0 }
+    Units {
+        left: 1000,
+        spent: 0,
+    }
 }
 
 fn is_too_high(answer: &Result<u32, FamilyStop>) -> bool {
-    matches!(answer, Err(FamilyStop::Denied { denial: Denial { reason: Reason::LevelTooHigh, .. }, .. }))
+    matches!(
+        answer,
+        Err(FamilyStop::Denied {
+            denial: Denial {
+                reason: Reason::LevelTooHigh,
+                ..
+            },
+            ..
+        })
+    )
 }
 
 /// The answer to the eliminator of `Empty` into a level, over the prelude.
