@@ -1,5 +1,5 @@
 -- Walks of clauses over the signature without the function, and the helpers that are opened over them.
-use Rattle.std.proofs.Common.{◌≡◌, ℕ, ◌+◌, ◌<◌, [], length, Ok, IfOk, sym, ap, subst as transport, arith}
+use Rattle.std.proofs.Common.{◌≡◌, ℕ, ◌+◌, ◌<◌, length, Ok, IfOk, sym, ap, subst as transport, arith}
 use Rattle.std.proofs.lemmas.List.Elements.{All-weaker}
 use Rattle.std.specs.List.{All}
 use Rattle.theory.specs.Terms.{Term, free_of, top}

@@ -1,5 +1,5 @@
 -- The entries of a plan, once they have entered: each helper with its type, and with recursion the function with its term.
-use Rattle.std.proofs.Common.{◌≡◌, ℕ, ◌+◌, Some, List, [], ◌∷◌, ◌++◌, Ok, refl, sym, subst as transport, append_assoc, arith}
+use Rattle.std.proofs.Common.{◌≡◌, ℕ, ◌+◌, Some, List, [], ◌∷◌, ◌++◌, Ok, refl, sym, subst as transport, append_assoc}
 use Rattle.std.specs.List.{All}
 use Rattle.theory.specs.Signatures.{Definition, IsPrefix, Signature}
 use Rattle.theory.specs.Terms.{Term}
