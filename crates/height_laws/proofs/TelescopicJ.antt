@@ -12,8 +12,9 @@ use Rattle.core_terms.proofs.Builders.{height-products}
 use Rattle.tele_eq.specs.Items.{Item, each_position, greatest_level, level_at, positions_of}
 use Rattle.tele_eq.specs.Dependences.{dependences}
 use Rattle.tele_eq.specs.Environments.{Environment, inside, outside}
-use Rattle.tele_eq.specs.TelescopicEquality.{Goal, Lefts, applied_goal, applied_to_pairs, equation, equation_behind, equations, equations_over, identity, left_sides, motive, reflexive, telescopic_j, transport_type, type_with}
+use Rattle.tele_eq.specs.TelescopicEquality.{Goal, Lefts, applied_goal, applied_to_pairs, equation, equations, equations_over, identity, left_sides, motive, reflexive, telescopic_j, transport_type, type_with}
 use Rattle.tele_eq.specs.Congruences.{common_level, congruence_below, image_equation, images}
+use Rattle.unification.proofs.Counts.{length-equations}
 use Rattle.height_laws.specs.Laws.{CongruencesAreHigh, EliminationIsHigh, EquationsAreHigh, TelescopicJIsHigh, TransportIsHigh, least_height}
 
 height-bind : (binder : Binder) (a b : Term) → height (bind binder a b) ≡ 1 + max (height a) (height b)
@@ -200,7 +201,7 @@ equations_are_high X left right goal many =
       many,
       some-height goal,
       height-products eqs goal,
-      count-positions (equation_behind (length X) X left right) 0 (length X),
+      length-equations X left right,
       height-binders types (products eqs goal),
       length-map X (λ x. x.type),
     )
