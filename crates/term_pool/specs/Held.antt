@@ -1,4 +1,4 @@
--- What a store holds, and how a call changes it.
+-- The state of a store, and how a call changes it.
 use Rattle.std.specs.Prelude.{◌≡◌, ◌≢◌, ℕ, ◌<◌, ◌≤◌, ◌+◌, Bool, false, nat_le, if◌then◌else◌, IsTrue, ◌⊎◌, Option, None, Some, Result, Ok, Err, IfErr}
 use Rattle.theory.specs.Terms.{Term, height}
 use Rattle.core_terms.specs.Answers.{Unless}
@@ -27,7 +27,7 @@ module _ {I : Type 0} where
     pub trees : (id : I) → IsTrue (old.live id) → new.tree id ≡ old.tree id
     pub keeps_rows : new.keeps_rows ≡ old.keeps_rows
 
-  -- the same, and nothing but nodes is new
+  -- ids stay live and keep their trees, and nothing but nodes is new
   pub record Extends (old new : Held I) : Type 0 where
     pub lives : (id : I) → IsTrue (old.live id) → IsTrue (new.live id)
     pub trees : (id : I) → IsTrue (old.live id) → new.tree id ≡ old.tree id

@@ -1,4 +1,4 @@
--- What a table of lifts says.
+-- A table of lifts.
 use Rattle.std.specs.Prelude.{ℕ, List}
 use Rattle.theory.specs.Terms.{lift}
 use Rattle.term_pool.specs.Held.{Held}

@@ -1,4 +1,4 @@
--- What is kept of a node, by what is kept of its parts.
+-- The facts that are kept of a node, by those of its parts.
 use Rattle.std.specs.Prelude.{ℕ, ◌+◌, ◌-◌, ◌≤◌, max, List}
 use Rattle.term_pool.specs.declared.node.Node.{Node}
 use Rattle.term_pool.specs.declared.node.Node.TheVariants.{Var, Pi, Lam, App, Let}

@@ -1,4 +1,4 @@
--- What a node says: its tree, where its parts are ids that stand for trees.
+-- The tree of a node, where its parts are ids that stand for trees.
 use Rattle.std.specs.Prelude.{Bool, IsTrue}
 use Rattle.theory.specs.Terms as tree
 use Rattle.term_pool.specs.declared.node.Node.{Node}

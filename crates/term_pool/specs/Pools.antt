@@ -1,4 +1,4 @@
--- What a pool holds.
+-- The nodes and rows of a pool.
 use Rattle.std.specs.Prelude.{◌≡◌, ℕ, ◌<◌, ◌≤◌, true, nat_le, List, length}
 use Rattle.term_pool.specs.Held.{Held}
 use Rattle.term_pool.specs.Memo.{Rows, row_at}

@@ -1,4 +1,4 @@
--- What a table of answers says: for a tree and a depth, which tree stands for it there.
+-- A table of answers: for a tree and a depth, which tree stands for it there.
 use Rattle.std.specs.Prelude.{◌≡◌, ℕ, ◌≤◌, List, IsTrue, ◌⊎◌}
 use Rattle.std.specs.List.{IsAmong}
 use Rattle.theory.specs.Terms.{Term, height}

@@ -1,4 +1,4 @@
--- What a store that shares nothing holds.
+-- The nodes of a store that shares nothing.
 use Rattle.std.specs.Prelude.{ℕ, false, List, None}
 use Rattle.term_pool.specs.Held.{Held}
 use Rattle.term_pool.specs.Shelves.{shelf_held}

@@ -1,4 +1,4 @@
-//! What is kept of the tree of a node, so that it takes one step to know it.
+//! The facts that are kept of the tree of a node, so that it takes one step to know them.
 ghost use Rattle.std.specs.Prelude.{◌≡◌, ◌≤◌, ◌<◌, ℕ};
 ghost use Rattle.term_pool.specs.NodeFacts.{node_facts, bound_inside, of_two_parts, of_three_parts, AreLow};
 ghost use Rattle.term_pool.specs.Shelves.{fact_at, node_at, tree_at, AreShelved};
@@ -45,7 +45,7 @@ pub(crate) fn shelved_node<I: Placed>(nodes: &[Node<I>], facts: &[Facts], at: u3
     node_of(nodes, at)
 }
 
-/// What is kept for the place; behind the end that is what is kept of a sort.
+/// The facts that are kept for the place; behind the end they are those of a sort.
 pub(crate) fn facts_at(facts: &[Facts], at: u32) -> Facts
     ensures { result ≡ fact_at facts.now at }
 {
@@ -58,7 +58,7 @@ pub(crate) fn facts_at(facts: &[Facts], at: u32) -> Facts
     }
 }
 
-/// What is kept of a node, by what is kept of its parts.
+/// The facts of a node, by those of its parts.
 pub(crate) fn facts_of_node<I: Placed>(facts: &[Facts], node: &Node<I>) -> Facts
     requires { AreLow facts.now }
     ensures { result ≡ node_facts (λ p. fact_at facts.now (I.place p)) node.now }
@@ -93,7 +93,7 @@ pub(crate) fn facts_of_node<I: Placed>(facts: &[Facts], node: &Node<I>) -> Facts
     }
 }
 
-/// The same with a binder more around it.
+/// The facts of a part with a binder more around it.
 fn inside(part: Facts) -> Facts
     ensures { result ≡ bound_inside part }
 {

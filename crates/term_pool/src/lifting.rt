@@ -30,7 +30,7 @@ pub fn lift_in<S: TermStore>(
     lift_within(alloc, store, t, by, from)
 }
 
-/// The same under a condition that is weaker for lower terms.
+/// `lift_in` under a condition that is weaker for lower terms.
 pub(crate) fn lift_within<S: TermStore>(
     alloc: Global,
     store: &mut S,
@@ -50,7 +50,7 @@ pub(crate) fn lift_within<S: TermStore>(
     lift_at(store, &mut table, t, by, from as u64)
 }
 
-/// The same, with the answers so far in a table.
+/// The lift of the term, with the answers so far in a table.
 #[cycle(lift)]
 fn lift_at<S: TermStore>(
     store: &mut S,
@@ -78,7 +78,7 @@ fn lift_at<S: TermStore>(
     }
 }
 
-/// The same where nothing is in the table yet.
+/// The lift of a term that is not in the table yet.
 #[cycle(lift)]
 fn lift_new<S: TermStore>(
     store: &mut S,

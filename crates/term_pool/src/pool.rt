@@ -113,7 +113,7 @@ impl Pool {
         Ok(Id { at })
     }
 
-    /// What is to be kept of a node.
+    /// The facts to be kept of a node.
     #[tactic(auto, using(crate::proofs::Shelving::fact_laws))]
     fn facts_of(&self, node: &Node<Id>) -> Facts
         ensures { result ≡ facts_of (says (pool_held self.now).tree node.now) }

@@ -7,7 +7,7 @@ pub enum Key<I> {
     Subtype(I, I),
 }
 
-/// What a call answered.
+/// The answer of a call.
 #[derive(Clone, Copy, Debug, PartialEq, Eq)]
 pub enum Answer<I> {
     Term(I),

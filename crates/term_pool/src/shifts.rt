@@ -1,4 +1,4 @@
-//! What one call has answered: for an id and a depth, the id of what stands for it there. So a part that is shared is answered once.
+//! The answers of one call: for an id and a depth, the id that stands for it there. So a part that is shared is answered once.
 ghost use Rattle.std.specs.Prelude.{◌≡◌, IsTrue, IfSome, OnOk, OnErr, Err};
 ghost use Rattle.core_terms.specs.declared.stop.Stop.TheVariants.{Memory};
 ghost use Rattle.indexmap.specs.IndexMap.{values};
@@ -19,7 +19,7 @@ pub(crate) struct Shift<I> {
 /// The answers of a call, by the place of the id and the depth.
 pub(crate) type Shifts<I> = IndexMap<(u32, u64), Shift<I>>;
 
-/// What was answered for an equal tree at the depth.
+/// The answer for an equal tree at the depth, where the table has one.
 pub(crate) fn known<S: TermStore>(
     store: &S,
     table: &Shifts<S::Id>,

@@ -35,7 +35,7 @@ pub fn subst_in<S: TermStore>(
     subst_at(alloc, store, &mut table, t, at, by, 0)
 }
 
-/// The same under so many binders, with the answers so far in a table.
+/// Puts `by` for the variable under so many binders, with the answers so far in a table.
 #[cycle(subst)]
 fn subst_at<S: TermStore>(
     alloc: Global,
@@ -66,7 +66,7 @@ fn subst_at<S: TermStore>(
     }
 }
 
-/// The same where nothing is in the table yet.
+/// Puts `by` for the variable in a term that is not in the table yet.
 #[cycle(subst)]
 fn subst_new<S: TermStore>(
     alloc: Global,
@@ -152,7 +152,7 @@ fn subst_node<S: TermStore>(
     }
 }
 
-/// What stands for the variable.
+/// The term that stands for the variable.
 fn subst_variable<S: TermStore>(
     alloc: Global,
     store: &mut S,

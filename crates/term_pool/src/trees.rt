@@ -44,7 +44,7 @@ impl Trees {
         }
     }
 
-    /// What is to be kept of a node.
+    /// The facts to be kept of a node.
     #[tactic(auto, using(crate::proofs::Shelving::fact_laws))]
     fn facts_of(&self, node: &Node<TreeId>) -> Facts
         ensures { result ≡ facts_of (says (λ p. tree_at tree_place self.now.nodes p.at) node.now) }
