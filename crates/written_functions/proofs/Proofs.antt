@@ -180,3 +180,33 @@ report-says S plan c left under = by (some_absurd (pats_of (part_at plan c.part)
     by : (b : Bool) → Answers (SaysProved S plan c) (cond b (answers (Ok (reported S Absurd)) left) (equation_report S plan c left))
     by true = λ n no. absurd (cc)
     by false = asked
+
+-- ---- the equation
+
+-- the equation that a clause is asked about
+pub record IsAsked (S : Signature) (plan : Plan) (c : Reference) : Type 0 where
+  pub given : Equation
+  pub is : equation_of S plan c.part c.clause c.walk ≡ Ok given
+
+-- a clause without `( )` that has a line has an equation, whatever the line is
+pub report-asks : (S : Signature) (plan : Plan) (c : Reference) (left : ℕ)
+    → Answers (λ r. some_absurd (pats_of (part_at plan c.part) c.clause) ≡ false → IsAsked S plan c) (report_of S plan c left)
+report-asks S plan c left = by (some_absurd (pats_of (part_at plan c.part) c.clause))
+  where
+    constant : {A : Type 0} (Q : Type 0) (r : Result A ReportStop) → Q → IfOk r (λ a. Q)
+    constant Q (Ok a) q = q
+    constant Q (Err e) q = tt
+
+    asked : Answers (λ r. IsAsked S plan c) (equation_report S plan c left)
+    asked =
+        let made = equation_of S plan c.part c.clause c.walk in
+        and_next-has (λ e. made ≡ Ok e) (λ (r : Reported). IsAsked S plan c) (answers (or_halts made) left) _ (halts-is made) (λ e rest is.
+        constant (IsAsked S plan c) _ (record { given = e; is = is }))
+
+    by : (b : Bool) → Answers (λ r. b ≡ false → IsAsked S plan c) (cond b (answers (Ok (reported S Absurd)) left) (equation_report S plan c left))
+    by true = λ no. absurd (cc)
+    by false = under (equation_report S plan c left).0 asked
+      where
+        under : (r : Result Reported ReportStop) → IfOk r (λ r. IsAsked S plan c) → IfOk r (λ r. false ≡ false → IsAsked S plan c)
+        under (Ok r) h = λ yes. h
+        under (Err e) h = tt

@@ -35,7 +35,7 @@ use Rattle.written_functions.proofs.Numbers.{all-under, scoped-under, telescope-
 use Rattle.written_functions.proofs.PartEntries.{HasType, part-there, type-stays}
 use Rattle.written_functions.proofs.PlanClauses.{ArePartsPlaced, ArePlaced, IsPlaced, earlier-there, placed-pats}
 use Rattle.written_functions.proofs.PlanGiven.{IsPlanGiven}
-use Rattle.written_functions.proofs.Proofs.{IsClosedUnder, IsProvedBy, SaysProved, report-says}
+use Rattle.written_functions.proofs.Proofs.{IsAsked, IsClosedUnder, IsProvedBy, SaysProved, report-asks, report-says}
 use Rattle.written_functions.proofs.Sides.{IsWalkUnder, type-under}
 
 -- ---- signatures on the way
@@ -74,16 +74,18 @@ record IsTold (U : Signature) (plan : Plan) (c : Reference) (r : Reported) : Typ
   proved : SaysProved U plan c r
   said : found.Said U plan c r
   absurd_line : some_absurd (pats_of (part_at plan c.part) c.clause) ≡ true → r.line ≡ Absurd
+  asked : some_absurd (pats_of (part_at plan c.part) c.clause) ≡ false → IsAsked U plan c
 
 report-told : (U : Signature) (plan : Plan) (c : Reference) (left : ℕ) → IsClosedUnder U plan c → Answers (IsTold U plan c) (report_of U plan c left)
 report-told U plan c left under =
     by (report_of U plan c left).0 (report-grows U plan c left) (report-says U plan c left under) (found.report-says U plan c left)
-    (absurd-line U plan c left)
+    (absurd-line U plan c left) (report-asks U plan c left)
   where
     by : (r : Result Reported ReportStop) → IfOk r (GrowsBy U) → IfOk r (SaysProved U plan c) → IfOk r (found.Said U plan c)
-        → IfOk r (λ r. some_absurd (pats_of (part_at plan c.part) c.clause) ≡ true → r.line ≡ Absurd) → IfOk r (IsTold U plan c)
-    by (Ok r) g p s a = record { grows = g; proved = p; said = s; absurd_line = a }
-    by (Err e) g p s a = tt
+        → IfOk r (λ r. some_absurd (pats_of (part_at plan c.part) c.clause) ≡ true → r.line ≡ Absurd)
+        → IfOk r (λ r. some_absurd (pats_of (part_at plan c.part) c.clause) ≡ false → IsAsked U plan c) → IfOk r (IsTold U plan c)
+    by (Ok r) g p s a q = record { grows = g; proved = p; said = s; absurd_line = a; asked = q }
+    by (Err e) g p s a q = tt
 
 -- the line of a clause of the plan
 abbrev line_at : Plan → Reference → Line → ClauseLine
@@ -110,9 +112,10 @@ module _ (S Own : Signature) (f : Function) (plan : Plan) (h : IsPlanGiven S f p
   line-says : (U : Signature) (k number : ℕ) (w : Walk) (c : Placed) (p : IsPlaced S f plan h k number w c) → IsBase S Own f plan values Made U
       → (V T : Signature) (line : Line) → found.Says U plan (reference k number w) V line
       → ((n : ℕ) → line ≡ Proved n → IsProvedBy U plan (reference k number w) V n)
-      → (some_absurd (pats_of (part_at plan k) number) ≡ true → line ≡ Absurd) → IsPrefix V T → IsWellFormed T
+      → (some_absurd (pats_of (part_at plan k) number) ≡ true → line ≡ Absurd)
+      → (some_absurd (pats_of (part_at plan k) number) ≡ false → IsAsked U plan (reference k number w)) → IsPrefix V T → IsWellFormed T
       → written.Says U (placed_at S f plan values) c T line
-  line-says U k number w c p b V T Definitional said proved clean more well =
+  line-says U k number w c p b V T Definitional said proved clean asked more well =
       let same = placed-pats S f plan h k number w c p in
       let none : some_absurd c.pats ≡ false =
       not-absurd (some_absurd c.pats) Definitional (λ yes. clean (ap some_absurd same ∙ yes)) (λ no. absurd (cc)) in
@@ -121,7 +124,7 @@ module _ (S Own : Signature) (f : Function) (plan : Plan) (h : IsPlanGiven S f p
         of = has-equation S f plan h values U b.before k number w c (last U b.well b.all) p none said.0.equation said.0.is;
         converts = said.0.converts;
       }
-  line-says U k number w c p b V T (Proved n) said proved clean more well =
+  line-says U k number w c p b V T (Proved n) said proved clean asked more well =
       let same = placed-pats S f plan h k number w c p in
       let none : some_absurd c.pats ≡ false =
       not-absurd (some_absurd c.pats) (Proved n) (λ yes. clean (ap some_absurd same ∙ yes)) (λ no. absurd (cc)) in
@@ -139,13 +142,16 @@ module _ (S Own : Signature) (f : Function) (plan : Plan) (h : IsPlanGiven S f p
         entry = entry;
         typed = definition-of (well.each n _ entry);
       }
-  line-says U k number w c p b V T (Shadowed earlier context vector ls) said proved clean more well =
+  line-says U k number w c p b V T (Shadowed earlier context vector ls) said proved clean asked more well =
       let same = placed-pats S f plan h k number w c p in
       let none : some_absurd c.pats ≡ false =
       not-absurd (some_absurd c.pats) (Shadowed earlier context vector ls) (λ yes. clean (ap some_absurd same ∙ yes)) (λ no. absurd (cc)) in
       let other = earlier-there S f plan h k number earlier w c p said.before in
       let stay : FamiliesStay U U = λ n family at. at in
+      let equates = asked (ap some_absurd same ∙ none) in
       record {
+        equation = equates.given;
+        of = has-equation S f plan h values U b.before k number w c (last U b.well b.all) p none equates.given equates.is;
         before = transport (λ i. earlier < i) (sym p.own_number) said.before;
         pats = other.pats;
         binds = other.binds;
@@ -157,7 +163,7 @@ module _ (S Own : Signature) (f : Function) (plan : Plan) (h : IsPlanGiven S f p
             transport (All (ConvertsAt U (placed_at S f plan values) c)) (sym said.shown)
             (leaves-convert S f plan h values U b.before (last U b.well b.all) k number w c p said.converts);
       }
-  line-says U k number w c p b V T Absurd said proved clean more well = ap some_absurd (sym (placed-pats S f plan h k number w c p)) ∙ said
+  line-says U k number w c p b V T Absurd said proved clean asked more well = ap some_absurd (sym (placed-pats S f plan h k number w c p)) ∙ said
 
   told-line : (U T : Signature) (k number : ℕ) (w : Walk) (c : Placed) (r : Reported) → IsPlaced S f plan h k number w c → IsBase S Own f plan values Made U
       → IsTold U plan (reference k number w) r → IsPrefix r.signature T → IsWellFormed T
@@ -169,7 +175,7 @@ module _ (S Own : Signature) (f : Function) (plan : Plan) (h : IsPlanGiven S f p
     longer = b.own;
     rest = prefix_transitive U r.signature T t.grows.prefix more;
     parts = λ i low. part-there U (placed_at S f plan values) i b.well (b.parts i low);
-    says = line-says U k number w c p b r.signature T r.line t.said t.proved t.absurd_line more well;
+    says = line-says U k number w c p b r.signature T r.line t.said t.proved t.absurd_line t.asked more well;
   }
 
   -- ---- all clauses

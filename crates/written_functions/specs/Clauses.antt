@@ -223,9 +223,11 @@ pub record ConvertsAt (S : Signature) (f : FunctionAt) (c : Placed) (leaf : Tele
   pub is : IsEquation S f c walk values leaf.1 binds walked found equation
   pub converts : Converts S equation.left equation.right
 
--- Shadowed: an earlier clause of the part takes arguments that this clause takes too, and at each leaf the sides of the clause's equation
--- convert.
+-- Shadowed: the clause has an equation. An earlier clause of the part takes arguments that this clause takes too, and at each leaf the sides
+-- of the clause's equation there convert.
 pub record IsShadowed (S : Signature) (f : FunctionAt) (c : Placed) (earlier : ℕ) (vector : List Term) (leaves : List (Telescope × List Term)) : Type 0 where
+  pub equation : Equation
+  pub of : HasEquation S f c equation
   pub before : earlier < c.number
   pub pats : Pats
   pub binds : ℕ
