@@ -3,7 +3,7 @@ use Rattle.std.proofs.Common.{◌≡◌, ℕ, ◌+◌, ◌≤◌, Bool, true, fa
 use Rattle.std.proofs.lemmas.List.{length-map}
 use Rattle.theory.specs.Terms.{Term, height}
 use Rattle.theory.specs.Terms.Term.{Sort, Lam, App}
-use Rattle.theory.specs.Telescopes.{Telescope, functions}
+use Rattle.theory.specs.Telescopes.{functions}
 use Rattle.theory.specs.Signatures.{Definition}
 use Rattle.core_terms.specs.Answers.{and_then, is_low, bounded}
 use Rattle.core_terms.specs.Levels.{run}
@@ -11,7 +11,7 @@ use Rattle.core_terms.specs.declared.levels.Binder.TheVariants.{Function}
 use Rattle.core_terms.specs.declared.stop.Stop.{Stop}
 use Rattle.core_terms.specs.declared.stop.Stop.TheVariants.{Deep}
 use Rattle.core_terms.proofs.Builders.{height-applied}
-use Rattle.core_terms.proofs.Placing.{height-over, deep-unless}
+use Rattle.core_terms.proofs.Placing.{height-over, height-functions, deep-unless}
 use Rattle.core_sig.specs.ByLevels.{family_at, motive_type}
 use Rattle.core_sig.specs.Shapes.{ConstructorShape, Shape, types_of, recursive_count, HaveFewArguments, IsFew}
 use Rattle.case_below_gen.specs.declared.components.Course.{Course}
@@ -22,10 +22,6 @@ use Rattle.case_below_gen.specs.CourseEntries.{course_of, applied_to_methods, el
 use Rattle.case_below_gen.specs.Projections.{HasFewBinders, projection, side_mark, side_entry_type, side_entry_term, side_of_shape}
 use Rattle.case_below_gen.specs.declared.sides.Side.{Side}
 use Rattle.core_sig.specs.Drafts.{Draft, drafted, generated_name}
-
-pub height-functions : (tele : Telescope) (b : Term) → height b + length tele ≤ height (functions tele b)
-height-functions [] b = omega arith
-height-functions (a ∷ tele) b = omega (arith, height-functions tele b)
 
 pub few-methods : (method : ℕ → ConstructorShape → Term) (number : ℕ) (head : Term) (cs : List ConstructorShape) → ((i : ℕ) (c : ConstructorShape) → length c.arguments ≤ height (method i c))
     → height (applied_to_methods method number head cs) ≤ 2000 → HaveFewArguments cs × (height head + length cs ≤ height (applied_to_methods method number head cs))

@@ -12,6 +12,7 @@ use Rattle.core_terms.specs.declared.case_tree.Origin.{Origin}
 use Rattle.core_terms.specs.declared.case_tree.Origin.TheVariants.{Old, Arg}
 use Rattle.tele_eq.specs.Environments.{put}
 use Rattle.tele_eq.specs.Items.{each_position}
+use Rattle.tele_eq.proofs.Positions.{length-each_position}
 use Rattle.unification.specs.Occurrences.{order_without}
 use Rattle.unification.specs.States.{State}
 use Rattle.unification.specs.Solving.{reordered, solved, solved_state}
@@ -116,10 +117,6 @@ chain-origins S P n _ _ _ origins (rule.more s t u step steps p one rest) h =
 
 -- ---- the start
 
-length-each : {A : Type 0} (f : ℕ → A) (at count : ℕ) → length (each_position f at count) ≡ count
-length-each f at zero = refl
-length-each f at (suc count) = ap suc (length-each f (at + 1) count)
-
 each-at : {A : Type 0} (f : ℕ → A) (at count k : ℕ) (a : A) → slice_get (each_position f at count) k ≡ Some a → (k < count) × (a ≡ f (at + k))
 each-at f at zero k a e = absurd (grind arith)
 each-at f at (suc count) zero a e =
@@ -141,7 +138,7 @@ pub origins-start : (n count : ℕ) → AreOrigins n (n + count) (variables (n +
 origins-start n count =
     record {
       count = length-append (each_position (λ j. Old (n - (j + 1))) 0 n) (each_position (λ j. Arg j) 0 count)
-          ∙ ap₂ (λ a b. a + b) (length-each (λ j. Old (n - (j + 1))) 0 n) (length-each (λ j. Arg j) 0 count);
+          ∙ ap₂ (λ a b. a + b) (length-each_position (λ j. Old (n - (j + 1))) 0 n) (length-each_position (λ j. Arg j) 0 count);
       each = λ k o e. by k o (split-place (each_position (λ j. Old (n - (j + 1))) 0 n) (each_position (λ j. Arg j) 0 count) k o e);
     }
   where
@@ -155,7 +152,7 @@ origins-start n count =
         ∙ (ap (slice_get (variables (n + count))) level ∙ variable-at (n + count) k (omega arith))
     by k o (inr (i, place, there)) =
         let (low, same) = each-at (λ j. Arg j) 0 count i o there in
-        let first : length (each_position (λ j. Old (n - (j + 1))) 0 n) ≡ n = length-each (λ j. Old (n - (j + 1))) 0 n in
+        let first : length (each_position (λ j. Old (n - (j + 1))) 0 n) ≡ n = length-each_position (λ j. Old (n - (j + 1))) 0 n in
         let level : n + (0 + i) ≡ k = omega arith in
         ap (λ q. slice_get (variables (n + count)) (origin_level n q)) same
         ∙ (ap (slice_get (variables (n + count))) level ∙ variable-at (n + count) k (omega arith))

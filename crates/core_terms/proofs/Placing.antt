@@ -242,7 +242,7 @@ run-push depth start (suc count) =
     ap (λ vs. variable depth start ∷ vs)
     (run-push depth (start + 1) count ∙ ap (λ l. run depth (start + 1) count ++ variable depth l ∷ []) (omega arith))
 
-height-bind : (binder : Binder) (a b : Term) → height (bind binder a b) ≡ 1 + max (height a) (height b)
+pub height-bind : (binder : Binder) (a b : Term) → height (bind binder a b) ≡ 1 + max (height a) (height b)
 height-bind Product a b = refl
 height-bind Function a b = refl
 
@@ -255,6 +255,10 @@ height-over binder runs size depth (a ∷ tele) b =
       height-over binder runs (size + 1) (depth + 1) tele b,
       height-bind binder (place runs size depth a) (over binder runs (size + 1) (depth + 1) tele b),
     )
+
+pub height-functions : (tele : Telescope) (b : Term) → height b + length tele ≤ height (functions tele b)
+height-functions [] b = omega arith
+height-functions (a ∷ tele) b = omega (arith, height-functions tele b)
 
 -- a term that is not low enough is Deep
 pub deep-unless : (t : Term) → ¬ (height t ≤ 2000) → bounded t ≡ Err Deep

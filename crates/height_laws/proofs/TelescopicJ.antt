@@ -3,12 +3,13 @@ use Rattle.std.proofs.Common.{◌≡◌, ◌*◌, ◌+◌, ◌<◌, ◌≤◌, �
 use Rattle.std.proofs.lemmas.List.{length-map}
 use Rattle.std.proofs.lemmas.List.Elements.{All-cons, All-nil}
 use Rattle.theory.specs.Terms.{Term, Var, Sort, Pi, Lam, App, Let, Const, Fam, Con, Elim, AxiomK, height, lift}
-use Rattle.theory.specs.Telescopes.{functions, products}
+use Rattle.theory.specs.Telescopes.{products}
 use Rattle.theory.specs.Signatures.{equality, equation as equation_of}
 use Rattle.core_terms.specs.Levels.{bind, variable}
 use Rattle.core_terms.specs.declared.levels.Binder.{Binder}
 use Rattle.core_terms.specs.declared.levels.Binder.TheVariants.{Product, Function}
 use Rattle.core_terms.proofs.Builders.{height-products}
+use Rattle.core_terms.proofs.Placing.{height-bind, height-functions}
 use Rattle.tele_eq.specs.Items.{Item, each_position, greatest_level, level_at, positions_of}
 use Rattle.tele_eq.specs.Dependences.{dependences}
 use Rattle.tele_eq.specs.Environments.{Environment, inside, outside}
@@ -16,10 +17,6 @@ use Rattle.tele_eq.specs.TelescopicEquality.{Goal, Lefts, applied_goal, applied_
 use Rattle.tele_eq.specs.Congruences.{common_level, congruence_below, image_equation, images}
 use Rattle.unification.proofs.Counts.{length-equations}
 use Rattle.height_laws.specs.Laws.{CongruencesAreHigh, EliminationIsHigh, EquationsAreHigh, TelescopicJIsHigh, TransportIsHigh, least_height}
-
-height-bind : (binder : Binder) (a b : Term) → height (bind binder a b) ≡ 1 + max (height a) (height b)
-height-bind Product a b = refl
-height-bind Function a b = refl
 
 height-app : (f a : Term) → height (App f a) ≡ 1 + max (height f) (height a)
 height-app f a = refl
@@ -188,10 +185,6 @@ pub congruences_are_high : CongruencesAreHigh
 congruences_are_high X [] f left right eqs many = All-nil (λ t. 2000 < height t)
 congruences_are_high X (y ∷ Y) f left right eqs many = each-high X (y ∷ Y) f (outside left) (outside right) (outside eqs) (length Y) 0 (suc (length Y)) many
 
-height-binders : (tele : List Term) (t : Term) → height t + length tele ≤ height (functions tele t)
-height-binders [] t = omega arith
-height-binders (a ∷ tele) t = omega (arith, height-binders tele t, height-bind Function a (functions tele t))
-
 pub equations_are_high : EquationsAreHigh
 equations_are_high X left right goal many =
     let types = map (λ x. x.type) X in
@@ -202,6 +195,6 @@ equations_are_high X left right goal many =
       some-height goal,
       height-products eqs goal,
       length-equations X left right,
-      height-binders types (products eqs goal),
+      height-functions types (products eqs goal),
       length-map X (λ x. x.type),
     )

@@ -1,5 +1,5 @@
 -- All positions of a telescope, and lists with a term for each.
-use Rattle.std.proofs.Common.{◌≡◌, ℕ, zero, suc, ◌+◌, ◌<◌, ◌≤◌, List, [], ◌∷◌, length, get_or, ap, ◌∙◌, arith}
+use Rattle.std.proofs.Common.{◌≡◌, ℕ, zero, suc, ◌+◌, ◌<◌, ◌≤◌, List, [], ◌∷◌, length, get_or, refl, ap, ◌∙◌, arith}
 use Rattle.std.specs.List.{All}
 use Rattle.std.proofs.lemmas.List.Elements.{All-nil, All-head, All-tail, All-cons}
 use Rattle.tele_eq.specs.Items.{Item, each_position, positions_of}
@@ -30,3 +30,7 @@ pub each_position-at : {A : Type 0} (f : ℕ → A) (j count p : ℕ) (x : A) �
 each_position-at f j zero p x lt = absurd (omega arith)
 each_position-at f j (suc count) zero x lt = ap f (omega arith)
 each_position-at f j (suc count) (suc p) x lt = each_position-at f (j + 1) count p x (omega arith) ∙ ap f (omega arith)
+
+pub length-each_position : {A : Type 0} (f : ℕ → A) (j count : ℕ) → length (each_position f j count) ≡ count
+length-each_position f j zero = refl
+length-each_position f j (suc count) = ap suc (length-each_position f (j + 1) count)

@@ -1,14 +1,11 @@
 -- How many there are: equations of a telescope, their types and their sides.
-use Rattle.std.proofs.Common.{◌≡◌, ℕ, zero, suc, ◌+◌, List, [], ◌∷◌, length, refl, ap, arith}
+use Rattle.std.proofs.Common.{◌≡◌, suc, ◌+◌, List, [], ◌∷◌, length, refl, ap, arith}
 use Rattle.theory.specs.Terms.{Term}
 use Rattle.theory.specs.Telescopes.{Telescope}
-use Rattle.tele_eq.specs.Items.{Item, each_position}
+use Rattle.tele_eq.specs.Items.{Item}
 use Rattle.tele_eq.specs.TelescopicEquality.{equations}
+use Rattle.tele_eq.proofs.Positions.{length-each_position}
 use Rattle.unification.specs.States.{Equation, equations_at, types_as_they_stand}
-
-length-each_position : {A : Type 0} (f : ℕ → A) (j count : ℕ) → length (each_position f j count) ≡ count
-length-each_position f j zero = refl
-length-each_position f j (suc count) = ap suc (length-each_position f (j + 1) count)
 
 -- an equation for each item
 pub length-equations : (X : List Item) (us vs : List Term) → length (equations X us vs) ≡ length X

@@ -22,10 +22,11 @@ use Rattle.core_terms.specs.declared.term.Term as term
 use Rattle.core_terms.proofs.Builders.{ok_is}
 use Rattle.core_terms.specs.declared.stop.Stop.TheVariants.{Deep}
 use Rattle.core_sig.specs.Meanings.{family_of}
-use Rattle.tele_eq.specs.Items.{Item, each_position, item_of, items_of}
+use Rattle.tele_eq.specs.Items.{Item, item_of, items_of}
 use Rattle.tele_eq.specs.declared.item.Item.{Item as CodeItem}
 use Rattle.tele_eq.specs.TelescopicEquality.{equations, equation_behind}
 use Rattle.tele_eq.proofs.ScopeLaws.{scoped_equations}
+use Rattle.tele_eq.proofs.Positions.{length-each_position}
 use Rattle.unification.specs.Groups.{all_convertible, are_equations_of}
 use Rattle.unification.specs.Heights.{are_low_items, bounded_items, equations_made, most_places}
 use Rattle.unification.specs.Records.{items_at, family_items}
@@ -112,10 +113,6 @@ telescope-given S n [] h low few = tt
 telescope-given S n (a ∷ tele) h low few =
     (record { scoped = scoped_over_more S n most_levels a (omega arith) h.0; low = low.0; few = omega arith }, telescope-given S (n + 1) tele h.1 low.1 (omega arith))
 
-length-each : (f : ℕ → Term) (j count : ℕ) → length (each_position f j count) ≡ count
-length-each f j zero = refl
-length-each f j (suc count) = ap suc (length-each f (j + 1) count)
-
 -- ---- equations that were made
 
 pub record AreMade (X : List Item) (us vs : List Term) (types : Telescope) : Type 0 where
@@ -197,7 +194,7 @@ module _ (S : Signature) (s : State) (k : ℕ) (m : Membership) (ready : IsReady
       let sides = sides-scoped S n (k + 1) 0 s.equations kept.scoped.equations in
       let X = family_items-scoped S m.number n (family_of m.record.now) (tele_of m.params) ready.scoped (family-found S m.number (family_of m.record.now) is.family) (parameters-scoped (tele_of m.params) is.parameters) in
       let scoped = scoped_equations S n items (left_sides group) (right_sides group) ready.identities X sides.0 sides.1 in
-      let l : length types ≡ k + 1 = ap length made.are ∙ (length-each (equation_behind (length items) items (left_sides group) (right_sides group)) 0 (length items) ∙ items-length-is) in
+      let l : length types ≡ k + 1 = ap length made.are ∙ (length-each_position (equation_behind (length items) items (left_sides group) (right_sides group)) 0 (length items) ∙ items-length-is) in
       telescope-given S n types (subst (IsScopedTelescope S n) (sym made.are) scoped) made.low (omega (arith, kept.few))
     where
       parameters-scoped : (ts : List Term) → AreGiven S (length s.context) ts → All (IsScoped S (length s.context)) ts

@@ -1,5 +1,5 @@
 -- The terms for the places and the equations of a group are over few variables.
-use Rattle.std.proofs.Common.{◌≡◌, ℕ, zero, suc, ◌+◌, ◌≤◌, nat_le, Bool, true, false, cond, Some, option_map, List, [], ◌∷◌, ◌++◌, length, drop, slice_get, All, Result, Ok, Err, refl, ap, ap₂, sym, ◌∙◌, subst as transport, arith}
+use Rattle.std.proofs.Common.{◌≡◌, ℕ, ◌+◌, ◌≤◌, nat_le, Bool, true, false, cond, Some, option_map, List, [], ◌∷◌, ◌++◌, length, drop, slice_get, All, Result, Ok, Err, refl, ap, ap₂, sym, ◌∙◌, subst as transport, arith}
 use Rattle.std.proofs.lemmas.Bool.Decides.{nat_tests}
 use Rattle.std.proofs.lemmas.List.{length-map}
 use Rattle.std.proofs.lemmas.List.Elements.{All-head, All-tail, All-nil, All-cons}
@@ -15,18 +15,17 @@ use Rattle.core_terms.specs.Levels.{variable}
 use Rattle.core_terms.specs.declared.stop.Stop.{Stop}
 use Rattle.core_terms.specs.declared.stop.Stop.TheVariants.{Deep}
 use Rattle.tele_eq.specs.Environments.{Environment}
-use Rattle.tele_eq.specs.Items.{Item, each_position, item_of, items_of}
+use Rattle.tele_eq.specs.Items.{Item, item_of, items_of}
 use Rattle.tele_eq.specs.declared.item.Item as code-item
 use Rattle.tele_eq.specs.TelescopicEquality.{equation_behind, equations}
-use Rattle.tele_eq.proofs.ScopeLaws.{scoped_congruences}
+use Rattle.tele_eq.proofs.Positions.{length-each_position}
 use Rattle.unification.specs.Heights.{are_low_items, bounded_items, equations_made, group_made, most_places}
 use Rattle.unification.specs.Injecting.{group_proofs, injected_equations, lifted}
 use Rattle.unification.specs.Records.{argument_items, family_items, constructor_terms}
-use Rattle.unification.specs.ScopedStates.{IsReady}
 use Rattle.unification.specs.Moving.{over_first, behind, moved}
 use Rattle.unification.specs.States.{Equation, State, equations_at}
 use Rattle.unification.proofs.MovedStates.{group_proofs-scoped}
-use Rattle.unification.proofs.ScopedRecords.{variables-scoped, lifted-scoped, length-argument_items, argument_items-scoped, family_items-scoped, constructor_terms-scoped}
+use Rattle.unification.proofs.ScopedRecords.{length-argument_items, constructor_terms-scoped}
 use Rattle.core_sig.specs.Meanings.{argument_of, constructor_of, family_of}
 use Rattle.core_terms.specs.declared.term.Term as code-term
 use Rattle.unifier.specs.CodeBuilt.{IsInjected, IsKnown}
@@ -135,15 +134,11 @@ joined-is s g n number f c ps us vs X types terms proofs ex et count ht hp =
     ∙ (ap (λ r. and_then r (λ terms. Ok (injected_equations s g n number f c ps us vs))) ht
     ∙ ap (λ r. and_then r (λ proofs. and_then (bounded_terms T) (λ terms. Ok (injected_equations s g n number f c ps us vs)))) hp)
 
-length-each : (f : ℕ → Term) (j count : ℕ) → length (each_position f j count) ≡ count
-length-each f j zero = refl
-length-each f j (suc count) = ap suc (length-each f (j + 1) count)
-
 -- there is an equation for each argument
 pub types-many : (n : ℕ) (ps us vs types : List Term) (c : Constructor) (X : List Item) → X ≡ argument_items n ps c → types ≡ equations X us vs
     → length types ≡ length c.arguments
 types-many n ps us vs types c X ex et =
-    ap length et ∙ (length-each (equation_behind (length X) X us vs) 0 (length X) ∙ (ap length ex ∙ length-argument_items n ps c))
+    ap length et ∙ (length-each_position (equation_behind (length X) X us vs) 0 (length X) ∙ (ap length ex ∙ length-argument_items n ps c))
 
 -- ---- properties of an injectivity
 

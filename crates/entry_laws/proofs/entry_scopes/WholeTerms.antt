@@ -15,6 +15,7 @@ use Rattle.tele_eq.specs.Items.{Item, term_at}
 use Rattle.tele_eq.specs.ScopeLaws.{AreScopedItems}
 use Rattle.tele_eq.specs.TelescopicEquality.{equations, reflexivities}
 use Rattle.tele_eq.proofs.ScopeLaws.{scoped_equations, scoped_reflexivities}
+use Rattle.tele_eq.proofs.Positions.{length-each_position}
 use Rattle.unification.specs.Built.{Built}
 use Rattle.unification.specs.Occurrences.{dependants, order_without}
 use Rattle.unification.specs.Records.{family_items}
@@ -35,7 +36,6 @@ use Rattle.tree_translation.specs.Replays.{level_of_first, kept, solved_standing
 use Rattle.tree_translation.specs.SolutionTerms.{remaining_goal, motive_levels, within, equation_with, solution_motive, solution_method, solution_term, delete_term}
 use Rattle.tree_translation.specs.Standings.{Standing, inside, equation_count, first_equations, further_equations, here, all_here, at_levels, placed, placed_telescope, levels_from, state_term}
 use Rattle.tree_translation.proofs.LevelLists.{length-levels}
-use Rattle.entry_laws.proofs.replay_laws.LowConfusions.{length-each}
 use Rattle.entry_laws.proofs.OnlyConstants.{Each, each-append, each-all}
 use Rattle.entry_laws.proofs.TableNames.{all-each}
 use Rattle.entry_laws.proofs.entry_scopes.DraftSignatures.{with_count, entry-there, ready-there}
@@ -162,7 +162,7 @@ module _ (S : Signature) (count : ℕ) (ready : IsReady S) (w : Standing) (is : 
       (scoped_over_more T (d + 2) (d + 1 + 1) _ (omega arith)
       (scoped-products T (d + 2) types (remaining_goal w 1 levels ((d + 1) ∷ []) (d + 2 + length moved)) (bound-types T w.state.context levels (d + 2) moved (omega arith) is.scoped.context)
       (subst (λ k. IsScoped T (d + 2 + k) (remaining_goal w 1 levels ((d + 1) ∷ []) (d + 2 + length moved))) (sym many)
-      (remaining-scoped 1 levels ((d + 1) ∷ []) (d + 2 + length moved) (omega arith) (length-each _ 0 (length w.state.context)) refl)))))
+      (remaining-scoped 1 levels ((d + 1) ∷ []) (d + 2 + length moved) (omega arith) (length-each_position _ 0 (length w.state.context)) refl)))))
 
   all-variables : (d : ℕ) (levels : List ℕ) → 0 < d → Each (IsScoped (with_count S count) d) (map (λ j. variable d (get_or w.variables j 0)) levels)
   all-variables d [] some = Each.none
@@ -299,7 +299,7 @@ module _ (S : Signature) (count : ℕ) (ready : IsReady S) (w : Standing) (is : 
   length-compared : (c : Comparison) → length (compared_equations w c) ≡ length c.family.indices + 1
   length-compared c =
       let X = family_items c.n c.family c.parameters in
-      length-placed w.variables (inside w) (equations X (left_member c) (right_member c)) ∙ (length-each _ 0 (length X) ∙ length-family_items c.n c.family c.parameters)
+      length-placed w.variables (inside w) (equations X (left_member c) (right_member c)) ∙ (length-each_position _ 0 (length X) ∙ length-family_items c.n c.family c.parameters)
 
   pub inject-scoped : (number : Naming) (L k : ℕ) (c : Comparison) (N : Term) → 0 < inside w → IsConstantNumber (with_count S count) (number (noconf_name c.family c.left.number L))
       → IsCompared S count ready (length w.state.context) c → length c.family.indices ≡ k → IsScoped (with_count S count) (inside w) N

@@ -1,5 +1,5 @@
 -- A telescope is scoped in another order too, where each type comes after all that it mentions: what it mentions has a place before its own.
-use Rattle.std.proofs.Common.{◌≡◌, ℕ, zero, suc, ◌+◌, ◌-◌, ◌<◌, ◌≤◌, inl, inr, Bool, true, false, ◌==◌, nat_lt, cond, List, [], ◌∷◌, ◌++◌, length, slice_get, All, refl, ap, sym, ◌∙◌, subst, append_assoc, arith}
+use Rattle.std.proofs.Common.{◌≡◌, ℕ, zero, suc, ◌+◌, ◌-◌, ◌<◌, ◌≤◌, inl, inr, Bool, true, false, ◌==◌, nat_lt, cond, List, [], ◌∷◌, ◌++◌, length, slice_get, All, refl, sym, ◌∙◌, subst, append_assoc, arith}
 use Rattle.std.proofs.lemmas.Bool.{false≢true, and_from}
 use Rattle.std.proofs.lemmas.Bool.Decides.{Decides-eqb, Decides-ltb}
 use Rattle.std.proofs.lemmas.List.{length-append}
@@ -13,6 +13,7 @@ use Rattle.core_terms.specs.Levels.{variable}
 use Rattle.tele_eq.specs.Dependences.{has_variable}
 use Rattle.tele_eq.specs.Items.{term_at, each_position}
 use Rattle.tele_eq.specs.Levels.{is_among, place_in}
+use Rattle.tele_eq.proofs.Positions.{length-each_position}
 use Rattle.unification.specs.Solving.{reordered, new_context}
 use Rattle.unification.proofs.Occurring.{put-all, put-where}
 use Rattle.unification.proofs.Levels.{among-cases}
@@ -106,10 +107,6 @@ pub variables-scoped : (S : Signature) (order : List ℕ) (depth : ℕ) → leng
 variables-scoped S [] depth le = All-nil (IsScoped S depth)
 variables-scoped S (p ∷ order) depth le = variables-there S (p ∷ order) depth (omega arith)
 
-pub length-each : {A : Type 0} (f : ℕ → A) (j count : ℕ) → length (each_position f j count) ≡ count
-length-each f j zero = refl
-length-each f j (suc count) = ap suc (length-each f (j + 1) count)
-
 -- there are as many as positions
 pub length-variables : (order : List ℕ) (depth : ℕ) → length (ordered_variables order depth) ≡ length order
-length-variables order depth = length-each (λ i. variable depth (place_in order i)) 0 (length order)
+length-variables order depth = length-each_position (λ i. variable depth (place_in order i)) 0 (length order)

@@ -7,8 +7,9 @@ use Rattle.core_terms.specs.Answers.{and_then}
 use Rattle.core_terms.specs.Levels.{run}
 use Rattle.core_terms.specs.declared.stop.Stop.{Stop}
 use Rattle.core_terms.specs.declared.stop.Stop.TheVariants.{Deep}
-use Rattle.tele_eq.specs.Items.{Item, each_position}
+use Rattle.tele_eq.specs.Items.{Item}
 use Rattle.tele_eq.specs.TelescopicEquality.{reflexivities}
+use Rattle.tele_eq.proofs.Positions.{length-each_position}
 use Rattle.unification.specs.Heights.{are_low_items}
 use Rattle.unification.specs.Records.{family_items}
 use Rattle.unification.proofs.ScopedRecords.{length-family_items}
@@ -32,10 +33,6 @@ pub record IsCounted (k : ℕ) (c : Comparison) : Type 0 where
   pub group : k ≢ 0 → k ≡ length c.family.indices
 
 -- ---- how many there are
-
-pub length-each : {A : Type 0} (f : ℕ → A) (j count : ℕ) → length (each_position f j count) ≡ count
-length-each f j zero = refl
-length-each f j (suc count) = ap suc (length-each f (j + 1) count)
 
 length-run : (depth start count : ℕ) → length (run depth start count) ≡ count
 length-run depth start zero = refl
@@ -62,7 +59,7 @@ length-group : (s : Standing) (k : ℕ) (c : Comparison) → IsCounted k c → l
 length-group s zero c counted =
     let refls = reflexivities (index_items c) c.indices in
     let all = length-append (all_here s refls) (first_equations s 1) in
-    let first : length (all_here s refls) ≡ length (index_items c) = length-map refls _ ∙ length-each _ 0 (length (index_items c)) in
+    let first : length (all_here s refls) ≡ length (index_items c) = length-map refls _ ∙ length-each_position _ 0 (length (index_items c)) in
     let count = length-index_items c in
     let one = length-run (inside s) s.depth 1 in
     omega arith

@@ -16,6 +16,7 @@ use Rattle.core_terms.specs.declared.stop.Stop.TheVariants.{Deep}
 use Rattle.core_terms.proofs.Builders.{height-applied}
 use Rattle.tele_eq.specs.Items.{Item}
 use Rattle.tele_eq.specs.TelescopicEquality.{equations, reflexivities}
+use Rattle.tele_eq.proofs.Positions.{length-each_position}
 use Rattle.unification.specs.Injecting.{lifted}
 use Rattle.unification.specs.Outcomes.{Outcome, steps_in}
 use Rattle.unification.specs.Records.{argument_items, constructor_terms, family_items}
@@ -41,7 +42,7 @@ use Rattle.split_terms.specs.CodeRunTerms.{run_made, run_names_made}
 use Rattle.split_terms.specs.CodeSplits.{branch_names_made, member_made, member_names_made, method_made, method_with, methods_names_made, motive_made, motive_with, split_end, split_head, split_member_made, split_option_made, standing_made, standing_with, state_made, with_methods}
 use Rattle.split_terms.proofs.SplitsMade.{in-parts}
 use Rattle.entry_laws.proofs.replay_laws.LowComparisons.{equations-there}
-use Rattle.entry_laws.proofs.replay_laws.LowConfusions.{reflexivities-there, length-each}
+use Rattle.entry_laws.proofs.replay_laws.LowConfusions.{reflexivities-there}
 use Rattle.entry_laws.proofs.replay_laws.LowInstances.{height-low}
 use Rattle.entry_laws.proofs.replay_laws.LowParts.{low-appended, low-applied, low-equations, low-functions, low-placed_telescope, low-products, low-reflexivities}
 use Rattle.entry_laws.proofs.replay_laws.SeenBranches.{branch-widens}
@@ -103,7 +104,7 @@ split-low node m x number methods count low =
     let b = length-append methods third in
     let d = length-append us refls in
     let u = length-append m.indices (Var x ∷ []) in
-    let r : length refls ≡ length X = length-each _ 0 (length X) in
+    let r : length refls ≡ length X = length-each_position _ 0 (length X) in
     let f : length X ≡ length m.family.indices + 1 = length-family_items m.n m.family m.parameters in
     record {
       few = omega arith;

@@ -1,5 +1,5 @@
 -- From a part to the whole: the terms that are made for it are scoped.
-use Rattle.std.proofs.Common.{◌≡◌, ℕ, zero, suc, ◌+◌, ◌<◌, ◌≤◌, ◌==◌, Bool, true, false, cond, List, [], ◌∷◌, length, map, All, Some, slice_get, refl, ap, subst as transport, arith}
+use Rattle.std.proofs.Common.{◌≡◌, ℕ, suc, ◌+◌, ◌<◌, ◌≤◌, ◌==◌, Bool, true, false, cond, List, [], ◌∷◌, length, map, All, Some, slice_get, refl, ap, subst as transport, arith}
 use Rattle.std.proofs.lemmas.Bool.Decides.{nat_tests}
 use Rattle.std.proofs.lemmas.List.Elements.{All-head, All-tail, All-nil, All-cons}
 use Rattle.theory.specs.Terms.{Term, top}
@@ -17,9 +17,10 @@ use Rattle.case_below_gen.specs.CourseEntries.{applied_to_methods}
 use Rattle.case_below_gen.specs.declared.sides.Side.TheVariants.{First, Second}
 use Rattle.case_below_gen.proofs.ScopedCourses.{pair_with-draft, const-draft}
 use Rattle.case_below_gen.proofs.ShapeLevels.{AreLowArguments}
-use Rattle.tele_eq.specs.Items.{Item, each_position}
+use Rattle.tele_eq.specs.Items.{Item}
 use Rattle.tele_eq.specs.TelescopicEquality.{equation_behind}
 use Rattle.tele_eq.proofs.DraftScopes.{draft-equations}
+use Rattle.tele_eq.proofs.Positions.{length-each_position}
 use Rattle.generators.specs.acyclic_gen.Statements.{at_level, point_at, unequal, no_part, not_within, none_within, directs}
 use Rattle.generators.specs.acyclic_gen.Pairings.{Within, Several, projection, component}
 use Rattle.generators.specs.acyclic_gen.Claims.{pushed_whole, pushed_part, position_of, eliminator}
@@ -53,10 +54,6 @@ placed-levels runs size depth (a ∷ arguments) low =
     (All-head (λ (a : ArgumentShape). a.level < top) a arguments low)
     (placed-levels runs (size + 1) (depth + 1) arguments (All-tail (λ (a : ArgumentShape). a.level < top) a arguments low))
 
-length-each : (f : ℕ → Term) (j count : ℕ) → length (each_position f j count) ≡ count
-length-each f j zero = refl
-length-each f j (suc count) = ap suc (length-each f (j + 1) count)
-
 -- the conditions of a push: the prelude, the family, and the arguments of its constructor
 pub record IsPushing (S : Signature) (count : ℕ) (q : Carrier) (push : Push) (own : List ArgumentShape) : Type 0 where
   pub first : IsPrefix (prelude S.has_k) S
@@ -79,7 +76,7 @@ length-equations : (q : Carrier) (push : Push) (own : List ArgumentShape) (branc
 length-equations q push own branch depth =
     let runs : List (ℕ × ℕ) = (0, q.params) ∷ (depth, push.count) ∷ [] in
     let X = placed_items runs q.params depth own in
-    omega (arith, length-each (equation_behind (length X) X (run depth push.first push.count) (run depth branch.start push.count)) 0 (length X), length-placed runs q.params depth own)
+    omega (arith, length-each_position (equation_behind (length X) X (run depth push.first push.count) (run depth branch.start push.count)) 0 (length X), length-placed runs q.params depth own)
 
 -- ---- branches
 

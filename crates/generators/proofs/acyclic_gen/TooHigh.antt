@@ -8,12 +8,12 @@ use Rattle.theory.specs.Terms.Term.{Var, Sort, Pi, Lam, App}
 use Rattle.core_terms.specs.Levels.{place_under, place, over}
 use Rattle.core_terms.specs.declared.levels.Binder.TheVariants.{Function}
 use Rattle.core_terms.specs.declared.stop.Stop.TheVariants.{Deep}
-use Rattle.core_terms.proofs.Placing.{height-over}
+use Rattle.core_terms.proofs.Placing.{height-over, height-functions}
 use Rattle.core_sig.specs.declared.family.ArgKind.{ArgKind}
 use Rattle.core_sig.specs.declared.family.ArgKind.TheVariants.{Plain, Recursive}
 use Rattle.core_sig.specs.Shapes.{ArgumentShape, ConstructorShape, Shape, types_of, by_kind, recursive_count, HaveFewArguments, IsFew}
 use Rattle.case_below_gen.specs.CourseEntries.{applied_to_methods}
-use Rattle.case_below_gen.proofs.FewMethods.{height-functions, few-methods, drafted-deep}
+use Rattle.case_below_gen.proofs.FewMethods.{few-methods, drafted-deep}
 use Rattle.generators.proofs.acyclic_gen.DirectLevels.{directs-some}
 use Rattle.tele_eq.proofs.Growing.{snoc-append}
 use Rattle.generators.specs.acyclic_gen.Statements.{carrier_at, no_part, has_direct, directs}

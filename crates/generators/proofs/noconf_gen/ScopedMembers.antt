@@ -19,9 +19,10 @@ use Rattle.core_sig.proofs.PlacedDrafts.{AreBelow, below-next, below-here, one-l
 use Rattle.core_sig.proofs.ShapeScopes.{IsDraftConstructor, IsDraftShape, family_at-draft, constructor-at-draft}
 use Rattle.case_below_gen.specs.CaseEntries.{closed_over}
 use Rattle.case_below_gen.proofs.ShapeLevels.{AreLowArguments, HasLowLevels}
-use Rattle.tele_eq.specs.Items.{Item, each_position}
+use Rattle.tele_eq.specs.Items.{Item}
 use Rattle.tele_eq.specs.TelescopicEquality.{equations}
 use Rattle.tele_eq.proofs.DraftScopes.{AreDraftItems, draft-equations, draft-congruences}
+use Rattle.tele_eq.proofs.Positions.{length-each_position}
 use Rattle.generators.specs.noconf_gen.Compared.{placed_items, argument_items, member_items, constructed}
 use Rattle.generators.specs.noconf_gen.NoConfusionTypes.{Member, equations_over, motive_type, congruences_at, injective_type, concluded}
 
@@ -128,12 +129,8 @@ pub closed-draft : {S : Signature} {count : ℕ} (binder : Binder) (n : ℕ) (te
 closed-draft Product n tele end all h = products-draft n tele end all h
 closed-draft Function n tele end all h = functions-draft n tele end all h
 
-length-each : (f : ℕ → Term) (j count : ℕ) → length (each_position f j count) ≡ count
-length-each f j zero = refl
-length-each f j (suc count) = ap suc (length-each f (j + 1) count)
-
 length-equations : (X : List Item) (left right : List Term) → length (equations X left right) ≡ length X
-length-equations X left right = length-each _ 0 (length X)
+length-equations X left right = length-each_position _ 0 (length X)
 
 pub equations_over-draft : {S : Signature} {count n : ℕ} {f : Shape} (binder : Binder) (left right : Member) (depth : ℕ) (end : Term) → IsCompared S count n f → length f.parameters ≤ depth → All (Drafted S count depth) (left depth) → All (Drafted S count depth) (right depth)
     → Drafted S count (depth + (length f.indices + 1)) end → Drafted S count depth (equations_over binder n f left right depth end)

@@ -14,6 +14,7 @@ use Rattle.core_terms.specs.declared.stop.Stop.{Stop}
 use Rattle.core_terms.specs.declared.stop.Stop.TheVariants.{Deep}
 use Rattle.core_terms.proofs.Answers.{low-is}
 use Rattle.core_terms.proofs.Builders.{height-applied}
+use Rattle.core_terms.proofs.Placing.{height-bind}
 use Rattle.core_sig.specs.ByLevels.{family_at}
 use Rattle.core_sig.specs.Shapes.{ArgumentShape, ConstructorShape, Shape, types_of}
 use Rattle.core_sig.specs.Drafts.{Draft, drafted}
@@ -30,10 +31,6 @@ use Rattle.generators.specs.noconf_gen.NoConfusion.{elimination_from, equal_memb
 use Rattle.generators.proofs.noconf_gen.SmallTerms.{height-place, length-members}
 
 -- ---- binders
-
-height-bind : (binder : Binder) (a b : Term) → height (bind binder a b) ≡ 1 + max (height a) (height b)
-height-bind Product a b = refl
-height-bind Function a b = refl
 
 pub height-closed : (binder : Binder) (tele : Telescope) (end : Term) → height end + length tele ≤ height (closed_over binder tele end)
 height-closed Product [] end = omega arith

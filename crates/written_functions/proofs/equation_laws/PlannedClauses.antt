@@ -10,6 +10,7 @@ use Rattle.core_terms.specs.CaseTrees.{Walk}
 use Rattle.core_terms.specs.Clauses as clause
 use Rattle.core_terms.specs.Clauses.{Clause, Right, Is}
 use Rattle.core_terms.specs.Patterns.{Pats, nil}
+use Rattle.tele_eq.proofs.Positions.{length-each_position}
 use Rattle.tree_translation.specs.structural_rec.Uses.{Use}
 use Rattle.case_trees.proofs.pattern_vectors.Opens.{as-long-counted}
 use Rattle.case_trees.specs.OwnWalks.{own_walk_of}
@@ -21,7 +22,6 @@ use Rattle.tree_translation.specs.Plans.{Plan, Part, no_part, own_part}
 use Rattle.tree_translation.specs.Recursion.{recursion_of, order_of}
 use Rattle.clause_reports.specs.Equations.{part_at}
 use Rattle.entry_laws.proofs.order_scopes.OrderLengths.{order-long}
-use Rattle.entry_laws.proofs.order_scopes.OrderedScopes.{length-each}
 
 pub record IsClauseThere (before : Signature) (plan : Plan) (at : ℕ) (part : Part) (number : ℕ) (w : Walk) : Type 0 where
   pub pats : Pats
@@ -82,7 +82,7 @@ own-long before plan h =
     ∙ (length-variables plan.arity
     ∙ (h.arity
     ∙ (sym (order-long before plan (recursion_of before plan) refl)
-    ∙ sym (length-each _ 0 (length (order_of (length (own_part plan).tele) (recursion_of before plan)))))))
+    ∙ sym (length-each_position _ 0 (length (order_of (length (own_part plan).tele) (recursion_of before plan)))))))
 
 -- a part after the first
 abbrev pub IsPartThere : (before : Signature) (plan : Plan) (uses : List Use) (k : ℕ) → Part → Type 0
