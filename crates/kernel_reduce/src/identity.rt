@@ -11,7 +11,7 @@ use core_sig::{Arg, Constructor, Family, Signature, equality};
 use core_terms::{TOP, Term};
 
 /// Whether K of `Eq.i` steps: it is on, and the signature has `Eq.i` as the prelude has it.
-pub(crate) fn has_k(sig: &Signature, i: u8) -> bool
+pub fn has_k(sig: &Signature, i: u8) -> bool
     ensures { result ≡ spec.has_k_at sig.now i }
 {
     sig.k() && i < TOP && is_there(sig, i)

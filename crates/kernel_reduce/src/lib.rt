@@ -21,4 +21,5 @@ mod stepping;
 mod testing;
 
 pub use calls::{NESTING, convertible, head_step, normal, subtype, subtype_within, tidy, whnf};
-pub use lookup::family;
+pub use identity::has_k;
+pub use lookup::{constructor, eliminator_arity, family, takes};

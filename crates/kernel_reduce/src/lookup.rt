@@ -34,14 +34,14 @@ pub fn family(sig: &Signature, n: u32) -> Option<&Family>
 }
 
 /// The constructor of the family with the number.
-pub(crate) fn constructor(f: &Family, number: u32) -> Option<&Constructor>
+pub fn constructor(f: &Family, number: u32) -> Option<&Constructor>
     ensures { option_copied result ≡ slice_get f.now.cons number }
 {
     f.cons.as_slice().get(number as usize)
 }
 
 /// How many arguments an eliminator of the family takes before its scrutinee.
-pub(crate) fn eliminator_arity(f: &Family) -> u128
+pub fn eliminator_arity(f: &Family) -> u128
     ensures { result ≡ length (family_of f.now).parameters + (1 + (length (family_of f.now).constructors + length (family_of f.now).indices)) }
 {
     let params = f.params.as_slice().len() as u128;
@@ -51,7 +51,7 @@ pub(crate) fn eliminator_arity(f: &Family) -> u128
 }
 
 /// Whether constructor `number` of the family takes exactly `count` arguments, the parameters among them.
-pub(crate) fn takes(f: &Family, number: u32, count: u32) -> bool
+pub fn takes(f: &Family, number: u32, count: u32) -> bool
     ensures { result ≡ family_takes number count (Some (family_of f.now)) }
 {
     match f.cons.as_slice().get(number as usize) {
