@@ -1,7 +1,9 @@
-ghost use Rattle.std.specs.Prelude.{◌≡◌, ◌+◌, ◌≤◌, OnErr};
+ghost use Rattle.std.specs.Prelude.{◌≡◌, ◌+◌, ◌≤◌, IfOk, OnErr};
+ghost use Rattle.theory.specs.Signatures.{IsPrefix};
 ghost use Rattle.surface_syntax.specs.TreeMeanings.{decl_of};
 ghost use Rattle.elab_session.specs.Declaring as spec;
 ghost use Rattle.elab_session.specs.Entering.{CanEnter, Declares};
+ghost use Rattle.elab_session.specs.Laws.{IsAsWritten};
 ghost use Rattle.elab_session.specs.Meanings.{raw_entry_of};
 ghost use Rattle.elab_session.specs.Sessions.{IsReady};
 
@@ -15,12 +17,15 @@ use resolve::declared_word;
 use std::alloc::Global;
 use surface_syntax::{Decl, Word};
 
-/// Adds the entries of a declaration, which may spend `fuel` units, and answers its name. After a refusal the signature is as
-/// it was.
+/// Adds the entries of a definition or a family, which may spend `fuel` units, and answers its name. After a refusal the
+/// signature is as it was.
 pub fn declare(alloc: Global, sig: &mut Signature, fuel: u64, d: &Decl) -> Result<Name, Refusal>
     requires ready { IsReady sig.old }
     ensures answer { spec.Answers sig.new result (spec.declare_of sig.old fuel (decl_of d.now)) }
     ensures err { OnErr result (sig.new ≡ sig.old) }
+    ensures longer { IsPrefix sig.old sig.new }
+    ensures ready { IsReady sig.new }
+    ensures written { IfOk result (λ name. IsAsWritten sig.old (decl_of d.now) (spec.accepted_as name sig.new)) }
 {
     let mut units = Units {
         left: fuel,

@@ -1,4 +1,5 @@
-ghost use Rattle.std.specs.Prelude.{◌≡◌, ◌+◌, ◌≤◌, None, IsTrue, map, length, Ok, OnErr};
+ghost use Rattle.std.specs.Prelude.{◌≡◌, ◌+◌, ◌≤◌, None, IsTrue, map, length, Ok, IfOk, OnErr};
+ghost use Rattle.theory.specs.Signatures.{IsPrefix};
 ghost use Rattle.theory.specs.SignatureScopes.{IsFamilyNumber, IsScoped};
 ghost use Rattle.core_terms.specs.Answers.{Gives};
 ghost use Rattle.core_terms.specs.Meanings.{tree_of};
@@ -9,6 +10,7 @@ ghost use Rattle.core_sig.specs.Raw.{raw_constructor_of, raw_of};
 ghost use Rattle.core_text.specs.RawEntries as pure;
 ghost use Rattle.family_check.specs.Entering.{entered_at};
 ghost use Rattle.family_check.specs.Scopes.{IsScopedRaw};
+ghost use Rattle.elab_session.specs.Adding.{IsAdded};
 ghost use Rattle.elab_session.specs.Entering as spec;
 ghost use Rattle.elab_session.specs.Meanings.{definition_of, raw_entry_of};
 ghost use Rattle.elab_session.specs.Sessions.{IsReady};
@@ -24,9 +26,9 @@ use family_check::{axiom_k, declare, define, instance};
 use std::alloc::Global;
 use surface_syntax::Word;
 
-/// Adds an entry of a core file, which may spend `fuel` units, and answers its number. After a refusal the signature is as it
-/// was.
-pub(crate) fn enter_entry(
+/// Adds an entry of a core file, which may spend `fuel` units, and answers its number, also where it is an instance that is
+/// there already. After a refusal the signature is as it was.
+pub fn enter_entry(
     alloc: Global,
     sig: &mut Signature,
     fuel: u64,
@@ -37,6 +39,9 @@ pub(crate) fn enter_entry(
     requires kinds { HasEntryKinds (length sig.old.entries) entry }
     ensures answer { spec.Enters sig.new result (spec.enter_of sig.old fuel (pure.entry_shown (length sig.old.entries) (entry_of entry))) }
     ensures err { OnErr result (sig.new ≡ sig.old) }
+    ensures longer { IsPrefix sig.old sig.new }
+    ensures added { IfOk result (λ _. IsAdded sig.old (pure.entry_shown (length sig.old.entries) (entry_of entry)) sig.new) }
+    ensures ready { IsReady sig.new }
 {
     let Ok(raw) = entry_shown(alloc, sig.len(), entry) else {
         return Err(Refusal::Memory);

@@ -1,9 +1,8 @@
 //! One declaration at a time: it is resolved and checked phase by phase, and its entries are accepted, or it is refused with
 //! the first reason in the written order.
 //!
-//! A `Session` holds the prelude and the entries that were accepted. Each declaration may spend the same number of units. A
-//! refusal leaves the session as it was, and holds its terms as texts. Definitions and families are built here; every other
-//! declaration is `NotYet`. The entries of a core file enter by the same checks.
+//! Definitions and families are added to a signature here; every other declaration is `NotYet`. The entries of a core file enter
+//! by the same checks. A refusal leaves the signature as it was, and holds its terms as texts.
 #![tactic(auto)]
 
 mod declaring;
@@ -14,10 +13,9 @@ mod refusal;
 mod refused_families;
 mod refusing;
 mod resolving;
-mod session;
 mod shown;
 
 pub use declaring::declare;
-pub use refusal::{PartName, Refusal, Text};
+pub use entering::enter_entry;
+pub use refusal::{FailingCall, PartName, Refusal, Text};
 pub use refusing::stopped;
-pub use session::Session;

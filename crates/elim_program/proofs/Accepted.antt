@@ -1,5 +1,5 @@
 -- Where a line says that a declaration is accepted, it is.
-use Rattle.std.proofs.Common.{◌≡◌, ℕ, false, List, [], ◌∷◌, ◌++◌, ◌-◌, ◌≢◌, length, map, codes, Some, Result, Ok, Err, refl, sym, ap, subst, ◌∙◌, arith, append_assoc, append-nil}
+use Rattle.std.proofs.Common.{◌≡◌, ℕ, false, List, [], ◌∷◌, ◌++◌, ◌-◌, ◌≢◌, length, map, codes, Option, Some, None, Result, Ok, Err, refl, sym, ap, subst, ◌∙◌, arith, append_assoc, append-nil}
 use Rattle.theory.specs.Terms.{Term}
 use Rattle.theory.specs.Telescopes.{Telescope}
 use Rattle.theory.specs.Signatures.{Signature, IsPrefix}
@@ -8,22 +8,21 @@ use Rattle.surface_syntax.specs.Trees as surf
 use Rattle.elab_session.specs.Sessions.{IsReady}
 use Rattle.elab_session.proofs.PreludeReady.{prelude-ready}
 use Rattle.clause_reports.specs.elaboration.Functions.{ClauseLine}
-use Rattle.clause_reports.specs.elaboration.Refusals as function
 use Rattle.clause_reports.specs.Reports.{Line, Definitional, Proved, Shadowed, Absurd}
-use Rattle.function_session.specs.Elaborating.{Elaborated, Refused, Declaration, Function, elaborate_of}
+use Rattle.elab_session.specs.declared.refusal.Refusal.{Refusal}
+use Rattle.function_session.specs.Elaborating.{Elaborated, elaborate_of}
 use Rattle.function_session.specs.Laws.{KeepsReady, IsAsWritten}
 use Rattle.function_session.proofs.Keeping.{elaborate-ready}
 use Rattle.function_session.proofs.Written.{elaborates-written}
 use Rattle.elim_program.specs.ClauseTexts.{clause_line, leaf_line, leaf_lines, with_leaves, clause_lines}
-use Rattle.elim_program.specs.FunctionRefusals.{refusal_text, candidate_lines}
 use Rattle.elim_program.specs.declared.counts.Counts.{Counts}
 use Rattle.elim_program.specs.declared.words.Command.{Command}
 use Rattle.elim_program.specs.declared.words.Work.{Work}
 use Rattle.elim_program.specs.Acceptance.{Accepts, end, next, own_lines, IsAccepted}
 use Rattle.elim_program.specs.Headline.{core_lines, Shows, none, more}
 use Rattle.elim_program.specs.DefinedOutputs.{IsOutput, refused_words, compiles, verifies, works}
-use Rattle.elim_program.specs.Outputs.{Output, accepted_line, accepted_lines, lines_after, declared_name, declared_block, refused_lines, after, followed, declarations, text_block, head_lines}
-use Rattle.elim_program.specs.Refusals.{stop_line, refusal_line}
+use Rattle.elim_program.specs.Outputs.{Output, accepted_line, accepted_lines, lines_after, declared_name, declared_block, after, followed, declarations, text_block, head_lines}
+use Rattle.elim_program.specs.Refusals.{candidate_lines, candidate_of, refusal_line, refused_lines, stop_line}
 use Rattle.elim_program.specs.Texts.{Answer, Gives, limited}
 use Rattle.elim_program.specs.Words.{asked}
 use Rattle.elim_program.specs.WorkTexts.{summary_line}
@@ -125,33 +124,23 @@ entries-and-clauses-core S T clauses =
 pub own-core : (S : Signature) (a : Elaborated) → core_lines (own_lines S a) ≡ lines_after S a.signature
 own-core S a = entries-and-clauses-core S a.signature a.lines
 
-candidates-other : (e : function.Refusal) → AreOther (candidate_lines e)
+candidates-other : (line : Option (List ℕ)) → AreOther (candidate_lines line)
 unfolding AreOther third
-candidates-other (function.Halts e) = tt
-candidates-other (function.IllTyped part place context reason) = tt
-candidates-other (function.WrongConstructor owner context type) = tt
-candidates-other (function.Stuck owner context left right why) = tt
-candidates-other (function.Uncovered name context vector) = tt
-candidates-other (function.NotAbsurd owner constructor) = tt
-candidates-other (function.Impossible owner context left right) = tt
-candidates-other (function.DotMismatch owner context written forced) = tt
-candidates-other (function.SelfInType owner) = tt
-candidates-other (function.NotSmaller rows) = tt
-candidates-other (function.Rejected r) = (third-other (codes "# candidate " ++ r.line) (λ k. omega (arith, k)), tt)
+candidates-other (Some line) = (third-other (codes "# candidate " ++ line) (λ k. omega (arith, k)), tt)
+candidates-other None = tt
 
-refused-other : (name : List ℕ) (e : Refused) → AreOther (refused_lines name e)
+refused-other : (name : List ℕ) (e : Refusal) → AreOther (refused_lines name e)
 unfolding AreOther third
-refused-other name (Declaration e) = (third-other (refusal_line name e) (λ k. omega (arith, k)), tt)
-refused-other name (Function e) =
-    both-other (candidate_lines e) ((codes "# refused " ++ name ++ codes " " ++ refusal_text e) ∷ []) (candidates-other e)
-    (third-other (codes "# refused " ++ name ++ codes " " ++ refusal_text e) (λ k. omega (arith, k)), tt)
+refused-other name e =
+    both-other (candidate_lines (candidate_of e)) (refusal_line name e ∷ []) (candidates-other (candidate_of e))
+    (third-other (refusal_line name e) (λ k. omega (arith, k)), tt)
 
 worked-other : (n fuel : ℕ) (S : Signature) (ds : List surf.Decl) (c : Counts) → AreOther (worked_block n (worked fuel S ds c)).lines
 unfolding AreOther third
 worked-other n fuel S [] c = (third-other (summary_line n c) (λ k. omega (arith, k)), tt)
 worked-other n fuel S (d ∷ ds) c = by (λ T more. worked-other n fuel T ds more) (elaborate_of S fuel d)
   where
-    by : ((T : Signature) (more : Counts) → AreOther (worked_block n (worked fuel T ds more)).lines) → (r : Result Elaborated Refused)
+    by : ((T : Signature) (more : Counts) → AreOther (worked_block n (worked fuel T ds more)).lines) → (r : Result Elaborated Refusal)
         → AreOther (worked_block n (on_worked d r (λ a. worked fuel a.signature ds (with_accepted c a)))).lines
     by rec (Ok a) = rec a.signature (with_accepted c a)
     by rec (Err e) = refused-other (declared_name d) e
@@ -235,7 +224,7 @@ found command all S (d ∷ ds) earlier above below name b e =
     go (λ T later earlier b r. found command all T ds earlier later below name b r) (elaborate_of S command.fuel d) refl e
   where
     go : ((T : Signature) (later earlier : List (List ℕ)) → IsBefore command all ds earlier T → (declarations command.fuel T ds).lines ≡ later ++ accepted_line name ∷ below → IsFound command all (earlier ++ later) name)
-        → (r : Result Elaborated Refused) → elaborate_of S command.fuel d ≡ r
+        → (r : Result Elaborated Refusal) → elaborate_of S command.fuel d ≡ r
         → (followed (declared_block S d r) (declarations command.fuel (after S r) ds)).lines ≡ above ++ accepted_line name ∷ below
         → IsFound command all (earlier ++ above) name
     go rec (Err refusal) er e = absurd (none_accepted (refused_lines (declared_name d) refusal) above below name (refused-other (declared_name d) refusal) e)

@@ -1,8 +1,7 @@
 -- The lines of a declaration, accepted or refused, hold no line feed, where its words and the names of the signature hold none.
-use Rattle.std.proofs.Common.{ℕ, List, Result, Ok, Err, IfOk}
+use Rattle.std.proofs.Common.{ℕ, Result, Ok, Err, IfOk}
 use Rattle.theory.specs.Signatures.{Signature}
 use Rattle.core_terms.proofs.Answers.{Splits}
-use Rattle.core_text.specs.Lines.{AreInLine}
 use Rattle.surface_syntax.specs.Trees as surf
 use Rattle.surface_syntax.specs.declared.tree.Word.{Word}
 use Rattle.resolve.specs.Functions as function
@@ -15,14 +14,13 @@ use Rattle.elab_session.specs.Laws.{IsAsWritten}
 use Rattle.elab_session.specs.Sessions.{IsReady}
 use Rattle.elab_session.specs.declared.refusal.Refusal.{Refusal}
 use Rattle.elab_session.proofs.Written.{declares-written}
-use Rattle.function_session.specs.Elaborating.{Elaborated, Refused, Declaration, Function, without_lines, refused_function, on_lines, enter_function, on_function, elaborate_of}
-use Rattle.elim_program.specs.Outputs.{refused_lines}
+use Rattle.function_session.specs.Elaborating.{Elaborated, without_lines, on_lines, enter_function, on_function, elaborate_of}
+use Rattle.function_session.specs.Refusals.{refused_function}
 use Rattle.elim_program.proofs.EnteredNames.{IsIn, if-ok}
 use Rattle.elim_program.proofs.FunctionInLine.{LinesIn, function-written}
-use Rattle.elim_program.proofs.FunctionTexts.{RefusalIn, ClauseIn, refusal-lines-in}
+use Rattle.elim_program.proofs.FunctionTexts.{RefusalIn, ClauseIn}
 use Rattle.elim_program.proofs.FunctionWords.{NameIn, function-in}
 use Rattle.elim_program.proofs.GrammarInLine.{WordIn, DeclInLine}
-use Rattle.elim_program.proofs.RefusalsInLine.{refusal-in}
 use Rattle.elim_program.proofs.SessionInLine.{NamesIn, TextIn, RefusesIn, AcceptedIn, Resolves, stopped-in, unresolved-in, refused-in, accepted-in}
 use Rattle.elim_program.proofs.TokensInLine.{Each}
 
@@ -31,17 +29,9 @@ pub record ElaboratedIn (a : Elaborated) : Type 0 where
   pub names : NamesIn a.signature
   pub clauses : Each ClauseIn a.lines
 
-abbrev pub RefusedIn : Refused → Type 0
-RefusedIn (Declaration e) = TextIn e
-RefusedIn (Function e) = RefusalIn e
-
 -- it is written in line
-abbrev pub WrittenIn : Result Elaborated Refused → Type 0
-WrittenIn r = Splits ElaboratedIn RefusedIn r
-
-pub refused-lines-in : (name : List ℕ) (e : Refused) → IsIn name → RefusedIn e → AreInLine (refused_lines name e)
-refused-lines-in name (Declaration e) h k = (refusal-in name e h k, tt)
-refused-lines-in name (Function e) h k = refusal-lines-in name e h k
+abbrev pub WrittenIn : Result Elaborated Refusal → Type 0
+WrittenIn r = Splits ElaboratedIn TextIn r
 
 -- ---- definitions and families
 
@@ -56,7 +46,7 @@ declared-in S fuel d ready names h =
 
 -- ---- functions
 
-refusal-written : (fuel : ℕ) (e : refusal.Refusal) → RefusalIn e → RefusedIn (refused_function fuel e)
+refusal-written : (fuel : ℕ) (e : refusal.Refusal) → RefusalIn e → TextIn (refused_function fuel e)
 refusal-written fuel (refusal.Halts e) h = stopped-in fuel e
 refusal-written fuel (refusal.IllTyped part place context reason) h = h
 refusal-written fuel (refusal.WrongConstructor owner context type) h = h

@@ -6,7 +6,7 @@ use Rattle.theory.specs.Signatures.{Signature}
 use Rattle.theory.specs.Telescopes.{Telescope}
 use Rattle.core_terms.specs.Patterns as pattern
 use Rattle.core_terms.specs.Patterns.{Pat}
-use Rattle.core_terms.specs.Verdicts.{Denial, Verdict, Yes, No, Mismatch}
+use Rattle.core_terms.specs.Verdicts.{Verdict, Yes, No, Mismatch}
 use Rattle.core_terms.specs.declared.stop.Stop.{Stop}
 use Rattle.core_terms.proofs.Answers.{Splits}
 use Rattle.core_text.specs.Lines.{AreInLine}
@@ -20,15 +20,15 @@ use Rattle.case_trees.specs.Stops.{TreeStop}
 use Rattle.clause_reports.specs.Reports.{Line, Definitional, Proved, Shadowed, Absurd}
 use Rattle.clause_reports.specs.Stops as report
 use Rattle.clause_reports.specs.Stops.{ReportStop}
-use Rattle.core_text.specs.ContextText.{context_text, reason_text}
+use Rattle.core_text.specs.ContextText.{context_text}
 use Rattle.clause_reports.specs.elaboration.Functions.{ClauseLine}
-use Rattle.clause_reports.specs.elaboration.Refusals.{Owner, Part, FailingCall, Refusal, Halts, Stuck, DotMismatch, SelfInType, NotSmaller, ill_typed, or_ill_typed, level_too_high, pattern_text, of_tree, or_ends, of_report, or_no_report, or_halts, owner_of}
+use Rattle.clause_reports.specs.elaboration.Refusals.{Owner, Part, FailingCall, Refusal, Halts, Stuck, DotMismatch, SelfInType, NotSmaller, or_ill_typed, level_too_high, pattern_text, of_tree, or_ends, of_report, or_no_report, or_halts, owner_of}
+use Rattle.function_session.specs.Refusals.{failing_call, part_name, refused_function}
 use Rattle.elim_program.specs.ClauseTexts.{vector_text, line_text, clause_line, leaf_line, leaf_lines, with_leaves, clause_lines}
-use Rattle.elim_program.specs.FunctionRefusals.{owner_text, part_text, why_text, failing_call_text, failing_calls_text, sides_text, denial_text, refusal_text, candidate_lines, refusal_lines}
-use Rattle.elim_program.specs.Refusals.{place_text}
+use Rattle.elim_program.specs.Refusals.{clause_text, denial_text, failing_call_text, failing_calls_text, part_text, positions_text, sides_text, why_text}
 use Rattle.elim_program.proofs.EnteredNames.{IsIn, ReportIn}
 use Rattle.elim_program.proofs.QuietWalks.{Any}
-use Rattle.elim_program.proofs.SessionInLine.{context-in, reason-in, NamesIn, has-names, term-in, place-in}
+use Rattle.elim_program.proofs.SessionInLine.{TextIn, context-in, denial-in, ill-typed-in, NamesIn, has-names, stopped-in, term-in}
 use Rattle.elim_program.proofs.TokensInLine.{Each}
 
 -- ---- parts of lines
@@ -36,6 +36,9 @@ use Rattle.elim_program.proofs.TokensInLine.{Each}
 -- two strings with a space between them
 pub apart : (a b : List ℕ) → IsIn a → IsIn b → IsIn (a ++ codes " " ++ b)
 apart a b h k = both (a ++ codes " ") b (both a (codes " ") h refl) k
+
+abbrev pub owner_text : Owner → List ℕ
+owner_text o = clause_text o.function o.clause
 
 pub owner-in : (o : Owner) → IsIn o.function → IsIn (owner_text o)
 owner-in o h = apart o.function (decimal o.clause) h (decimal-in o.clause)
@@ -53,9 +56,6 @@ why-in NeedsIndexEquations = refl
 sides-in : (context left right : List ℕ) → IsIn context → IsIn left → IsIn right → IsIn (sides_text context left right)
 sides-in context left right h k l = both (context ++ codes " " ++ left ++ codes " = ") right (both (context ++ codes " " ++ left) (codes " = ") (apart context left h k) refl) l
 
-denial-in : (place context reason : List ℕ) → IsIn context → IsIn reason → IsIn (denial_text place context reason)
-denial-in place context reason h k = apart (place_text place ++ codes " " ++ context) reason (apart (place_text place) context (place-in place) h) k
-
 pub spaced-in : (S : Signature) → NamesIn S → (terms : List Term) → IsIn (spaced S terms)
 spaced-in S names [] = refl
 spaced-in S names (t ∷ terms) =
@@ -63,41 +63,21 @@ spaced-in S names (t ∷ terms) =
 
 -- ---- refusals
 
--- the lines of the refusal are in line, where the declaration's name is
+-- as a refusal of the declaration, whose units only a stop shows
 abbrev pub RefusalIn : Refusal → Type 0
-RefusalIn e = IsIn (refusal_text e) × AreInLine (candidate_lines e)
-
-pub refusal-lines-in : (name : List ℕ) (e : Refusal) → IsIn name → RefusalIn e → AreInLine (refusal_lines name e)
-refusal-lines-in name e h k = go (candidate_lines e) k.1
-  where
-    last : IsIn (codes "# refused " ++ name ++ codes " " ++ refusal_text e)
-    last = apart (codes "# refused " ++ name) (refusal_text e) (both (codes "# refused ") name refl h) k.0
-
-    go : (lines : List (List ℕ)) → AreInLine lines → AreInLine (lines ++ (codes "# refused " ++ name ++ codes " " ++ refusal_text e) ∷ [])
-    go [] h = (last, tt)
-    go (line ∷ lines) h = (h.0, go lines h.1)
+RefusalIn e = TextIn (refused_function 0 e)
 
 pub halts-in : (e : Stop) → RefusalIn (Halts e)
-halts-in e = (refl, tt)
+halts-in e = stopped-in 0 e
 
-ill-typed-in : (S : Signature) → NamesIn S → (part : Part) → IsIn (part_text part) → (d : Denial) → RefusalIn (ill_typed S part d)
-ill-typed-in S names part h d = (
-  apart (codes "IllTyped " ++ part_text part) (denial_text d.place (context_text S d.ctx) (reason_text S d.reason)) (both (codes "IllTyped ") (part_text part) refl h)
-      (denial-in d.place (context_text S d.ctx) (reason_text S d.reason) (context-in S names d.ctx) (reason-in S names d.reason)),
-  tt,
-)
-
-pub granted-in : (S : Signature) → NamesIn S → (part : Part) → IsIn (part_text part) → (r : Result Verdict Stop) → Splits Any RefusalIn (or_ill_typed S part r)
+pub granted-in : (S : Signature) → NamesIn S → (part : Part) → IsIn (part_text (part_name part)) → (r : Result Verdict Stop) → Splits Any RefusalIn (or_ill_typed S part r)
 granted-in S names part h (Ok (Yes type)) = tt
-granted-in S names part h (Ok (No d)) = ill-typed-in S names part h d
+granted-in S names part h (Ok (No d)) = ill-typed-in S names (part_name part) h d
 granted-in S names part h (Err e) = halts-in e
 
-pub level-too-high-in : (S : Signature) → NamesIn S → (part : Part) → IsIn (part_text part) → (level greatest : ℕ) → RefusalIn (level_too_high S part level greatest)
-level-too-high-in S names part h level greatest = (
-  apart (codes "IllTyped " ++ part_text part) (denial_text [] (context_text S []) (reason_text S (Mismatch (Sort level) (Sort greatest)))) (both (codes "IllTyped ") (part_text part) refl h)
-      (denial-in [] (context_text S []) (reason_text S (Mismatch (Sort level) (Sort greatest))) (context-in S names []) (reason-in S names (Mismatch (Sort level) (Sort greatest)))),
-  tt,
-)
+pub level-too-high-in : (S : Signature) → NamesIn S → (part : Part) → IsIn (part_text (part_name part)) → (level greatest : ℕ) → RefusalIn (level_too_high S part level greatest)
+level-too-high-in S names part h level greatest =
+    ill-typed-in S names (part_name part) h (record { place = []; ctx = []; reason = Mismatch (Sort level) (Sort greatest) })
 
 stuck-in : (S : Signature) → NamesIn S → (o : Owner) → IsIn o.function → (context : Telescope) (u v : Term) (why : Why)
     → RefusalIn (Stuck o (context_text S context) (term_text S u) (term_text S v) why)
@@ -180,17 +160,18 @@ self-in o h = (at-owner (codes "SelfInType ") o refl h, tt)
 abbrev pub CallIn : FailingCall → Type 0
 CallIn c = IsIn c.owner.function × IsIn c.call
 
-row-in : (c : FailingCall) → CallIn c → IsIn (failing_call_text c)
+row-in : (c : FailingCall) → CallIn c → IsIn (failing_call_text (failing_call c))
 row-in c h =
-    apart (codes " " ++ decimal c.position ++ codes " " ++ owner_text c.owner) c.call
-    (apart (codes " " ++ decimal c.position) (owner_text c.owner) (both (codes " ") (decimal c.position) refl (decimal-in c.position)) (owner-in c.owner h.0)) h.1
+    apart (positions_text (c.position ∷ []) ++ codes " " ++ owner_text c.owner) c.call
+    (apart (positions_text (c.position ∷ [])) (owner_text c.owner)
+    (both (codes " ") (decimal c.position ++ []) refl (both (decimal c.position) [] (decimal-in c.position) refl)) (owner-in c.owner h.0)) h.1
 
-rows-in : (rows : List FailingCall) → Each CallIn rows → IsIn (failing_calls_text rows)
+rows-in : (rows : List FailingCall) → Each CallIn rows → IsIn (failing_calls_text (map failing_call rows))
 rows-in [] h = refl
-rows-in (c ∷ rows) h = both (failing_call_text c) (failing_calls_text rows) (row-in c h.0) (rows-in rows h.1)
+rows-in (c ∷ rows) h = both (failing_call_text (failing_call c)) (failing_calls_text (map failing_call rows)) (row-in c h.0) (rows-in rows h.1)
 
 pub not-smaller-in : (rows : List FailingCall) → Each CallIn rows → RefusalIn (NotSmaller rows)
-not-smaller-in rows h = (both (codes "NotSmaller") (failing_calls_text rows) refl (rows-in rows h), tt)
+not-smaller-in rows h = (both (codes "NotSmaller") (failing_calls_text (map failing_call rows)) refl (rows-in rows h), tt)
 
 -- ---- clauses
 

@@ -12,7 +12,8 @@ use Rattle.surface_syntax.specs.Parsing.{Answer, Read, Wrong, Deep, run}
 use Rattle.surface_syntax.proofs.Runs.{run_file}
 use Rattle.elab_session.specs.Sessions.{IsReady}
 use Rattle.elab_session.proofs.PreludeReady.{prelude-ready}
-use Rattle.function_session.specs.Elaborating.{Elaborated, Refused, elaborate_of}
+use Rattle.elab_session.specs.declared.refusal.Refusal.{Refusal}
+use Rattle.function_session.specs.Elaborating.{Elaborated, elaborate_of}
 use Rattle.function_session.specs.Laws.{KeepsReady}
 use Rattle.function_session.proofs.Keeping.{elaborate-ready}
 use Rattle.surface_syntax.specs.Lexemes.{lexemes_of}
@@ -36,10 +37,10 @@ use Rattle.elim_program.specs.WorkTexts.{summary_line, work_text}
 use Rattle.elim_program.specs.Works.{none_counted, on_worked, with_accepted, work_block, worked, worked_block}
 use Rattle.elim_program.proofs.Accepted.{accepted}
 use Rattle.elim_program.proofs.Shown.{shown}
-use Rattle.elim_program.proofs.ElaboratedInLine.{ElaboratedIn, WrittenIn, refused-lines-in, elaborated-in}
+use Rattle.elim_program.proofs.ElaboratedInLine.{ElaboratedIn, WrittenIn, elaborated-in}
 use Rattle.elim_program.proofs.FunctionTexts.{clauses-in}
 use Rattle.elim_program.proofs.GrammarInLine.{DeclInLine, file-in, lexemes-good}
-use Rattle.elim_program.proofs.RefusalsInLine.{join, stop-in}
+use Rattle.elim_program.proofs.RefusalsInLine.{join, refused-lines-in, stop-in}
 use Rattle.elim_program.proofs.SessionInLine.{NamesIn, has-names, prelude-in}
 use Rattle.elim_program.proofs.TextLines.{lines-text, lines-front}
 use Rattle.elim_program.proofs.TokensInLine.{Each, tokens-in}
@@ -74,7 +75,7 @@ declarations-in fuel S [] ready names h = tt
 declarations-in fuel S (d ∷ ds) ready names h =
     go (elaborate_of S fuel d) (elaborate-ready S fuel d ready) (elaborated-in S fuel d ready names h.0) (λ T r n. declarations-in fuel T ds r n h.1)
   where
-    go : (r : Result Elaborated Refused) → IfOk r (KeepsReady S) → WrittenIn r → ((T : Signature) → IsReady T → NamesIn T → AreInLine (declarations fuel T ds).lines) →
+    go : (r : Result Elaborated Refusal) → IfOk r (KeepsReady S) → WrittenIn r → ((T : Signature) → IsReady T → NamesIn T → AreInLine (declarations fuel T ds).lines) →
         AreInLine (followed (declared_block S d r) (declarations fuel (after S r) ds)).lines
     go (Err e) on k rec = refused-lines-in (declared_name d) e (name-in d h.0) k
     go (Ok a) on k rec =
@@ -123,7 +124,7 @@ worked-in n fuel S [] c ready names h = (summary-in n c, tt)
 worked-in n fuel S (d ∷ ds) c ready names h =
     go (λ T more r k. worked-in n fuel T ds more r k h.1) (elaborate_of S fuel d) (elaborate-ready S fuel d ready) (elaborated-in S fuel d ready names h.0)
   where
-    go : ((T : Signature) (more : Counts) → IsReady T → NamesIn T → AreInLine (worked_block n (worked fuel T ds more)).lines) → (r : Result Elaborated Refused) → IfOk r (KeepsReady S) → WrittenIn r
+    go : ((T : Signature) (more : Counts) → IsReady T → NamesIn T → AreInLine (worked_block n (worked fuel T ds more)).lines) → (r : Result Elaborated Refusal) → IfOk r (KeepsReady S) → WrittenIn r
         → AreInLine (worked_block n (on_worked d r (λ a. worked fuel a.signature ds (with_accepted c a)))).lines
     go rec (Ok a) on k = rec a.signature (with_accepted c a) on.ready k.names
     go rec (Err e) on k = refused-lines-in (declared_name d) e (name-in d h.0) k

@@ -6,7 +6,7 @@ use Rattle.core_text.proofs.Feeds.{both, decimal-in}
 use Rattle.elab_session.specs.declared.refusal.Refusal.{Refusal}
 use Rattle.elim_program.specs.declared.text_stop.TextStop.{TextStop}
 use Rattle.elim_program.specs.declared.text_stop.TextStop.TheVariants as stop
-use Rattle.elim_program.specs.Refusals.{stop_line, refusal_line, refusal_text}
+use Rattle.elim_program.specs.Refusals.{candidate_lines, candidate_of, refusal_line, refusal_text, refused_lines, stop_line}
 use Rattle.elim_program.proofs.SessionInLine.{TextIn}
 
 pub join : (xs ys : List (List ℕ)) → AreInLine xs → AreInLine ys → AreInLine (xs ++ ys)
@@ -15,7 +15,10 @@ join (x ∷ xs) ys h k = (h.0, join xs ys h.1 k)
 
 pub refusal-in : (name : List ℕ) (e : Refusal) → is_in_line name ≡ true → TextIn e → is_in_line (refusal_line name e) ≡ true
 refusal-in name e h k =
-    both (codes "# refused " ++ name ++ codes " ") (refusal_text e) (both (codes "# refused " ++ name) (codes " ") (both (codes "# refused ") name refl h) refl) k
+    both (codes "# refused " ++ name ++ codes " ") (refusal_text e) (both (codes "# refused " ++ name) (codes " ") (both (codes "# refused ") name refl h) refl) k.0
+
+pub refused-lines-in : (name : List ℕ) (e : Refusal) → is_in_line name ≡ true → TextIn e → AreInLine (refused_lines name e)
+refused-lines-in name e h k = join (candidate_lines (candidate_of e)) (refusal_line name e ∷ []) k.1 (refusal-in name e h k, tt)
 
 pub stop-in : (e : TextStop) → is_in_line (stop_line e) ≡ true
 stop-in stop.Memory = refl

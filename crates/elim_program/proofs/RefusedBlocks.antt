@@ -4,11 +4,12 @@ use Rattle.std.specs.Prelude.{OnOk}
 use Rattle.theory.specs.Signatures.{Signature}
 use Rattle.core_terms.specs.Answers.{Unless}
 use Rattle.surface_syntax.specs.Trees as surf
-use Rattle.function_session.specs.Elaborating as pure
-use Rattle.function_session.specs.Meanings.{IsUnforeseen, refused_of}
-use Rattle.function_session.specs.declared.refused.Refused.{Refused}
+use Rattle.elab_session.specs.Refusals.{IsUnforeseen}
+use Rattle.elab_session.specs.declared.refusal.Refusal.{Refusal}
+use Rattle.function_session.specs.Elaborating.{Elaborated}
 use Rattle.elim_program.specs.Blocks.{Makes}
-use Rattle.elim_program.specs.Outputs.{block, declared_block, declared_name, refused_lines, after}
+use Rattle.elim_program.specs.Outputs.{block, declared_block, declared_name, after}
+use Rattle.elim_program.specs.Refusals.{refused_lines}
 use Rattle.elim_program.specs.declared.block.Block as code
 use Rattle.elim_program.specs.declared.status.Status.{Status}
 use Rattle.elim_program.specs.declared.status.Status.TheVariants.{NoMemory}
@@ -16,16 +17,16 @@ use Rattle.elim_program.specs.declared.status.Status.TheVariants.{NoMemory}
 no_ok : (b : code.Block) → ◌≡◌ {A = Result code.Block Status} (Ok b) (Err NoMemory) → ⊥
 no_ok b e = cc
 
-pub made_refused : (S : Signature) (d : surf.Decl) (r : Refused) (result : Result code.Block Status) (meant : Result pure.Elaborated pure.Refused) (name : List ℕ) → name ≡ declared_name d
-    → Makes result (block (refused_lines name (refused_of r)) true) → (IsUnforeseen r → result ≡ Err NoMemory) → Unless (IsUnforeseen r) (Err (refused_of r) ≡ meant)
+pub made_refused : (S : Signature) (d : surf.Decl) (r : Refusal) (result : Result code.Block Status) (meant : Result Elaborated Refusal) (name : List ℕ) → name ≡ declared_name d
+    → Makes result (block (refused_lines name r) true) → (IsUnforeseen r → result ≡ Err NoMemory) → Unless (IsUnforeseen r) (Err r ≡ meant)
     → Makes result (declared_block S d meant)
 made_refused S d r (Err e) meant name same made memory answer = made
 made_refused S d r (Ok b) meant name same made memory answer =
-    let is : Err (refused_of r) ≡ meant = answer (λ u. no_ok b (memory u)) in
-    subst (λ m. Makes (Ok b) (declared_block S d m)) is (subst (λ n. Makes (Ok b) (block (refused_lines n (refused_of r)) true)) same made)
+    let is : Err r ≡ meant = answer (λ u. no_ok b (memory u)) in
+    subst (λ m. Makes (Ok b) (declared_block S d m)) is (subst (λ n. Makes (Ok b) (block (refused_lines n r) true)) same made)
 
-pub after_refused : (S T : Signature) (r : Refused) (result : Result code.Block Status) (meant : Result pure.Elaborated pure.Refused) → T ≡ S → (IsUnforeseen r → result ≡ Err NoMemory)
-    → Unless (IsUnforeseen r) (Err (refused_of r) ≡ meant) → OnOk result (T ≡ after S meant)
+pub after_refused : (S T : Signature) (r : Refusal) (result : Result code.Block Status) (meant : Result Elaborated Refusal) → T ≡ S → (IsUnforeseen r → result ≡ Err NoMemory)
+    → Unless (IsUnforeseen r) (Err r ≡ meant) → OnOk result (T ≡ after S meant)
 after_refused S T r (Err e) meant same memory answer = tt
 after_refused S T r (Ok b) meant same memory answer =
-    let is : Err (refused_of r) ≡ meant = answer (λ u. no_ok b (memory u)) in same ∙ ap (after S) is
+    let is : Err r ≡ meant = answer (λ u. no_ok b (memory u)) in same ∙ ap (after S) is

@@ -37,8 +37,9 @@ use Rattle.elab_session.specs.Entering.{answered, answers, checked, refused}
 use Rattle.elab_session.specs.Laws.{IsAsWritten}
 use Rattle.elab_session.specs.Refusals as refusals
 use Rattle.core_text.specs.ContextText.{types_text, context_text, reason_text}
+use Rattle.elab_session.specs.declared.refusal.PartName.{PartName}
 use Rattle.elab_session.specs.declared.refusal.Refusal.{Refusal}
-use Rattle.elim_program.specs.Refusals.{refusal_text, part_text, place_text}
+use Rattle.elim_program.specs.Refusals.{candidate_lines, candidate_of, denial_text, part_text, place_text, refusal_text}
 use Rattle.elim_program.proofs.GrammarInLine.{WordIn, UsesInLine, AllInLine, BindersInLine, TypedIn, DeclInLine}
 use Rattle.elim_program.proofs.TokensInLine.{Each, each, apart, cons-in}
 
@@ -222,20 +223,21 @@ data-in S x params ty cons hx hp ht hc =
 
 -- Refusals as they are printed.
 
+-- the lines of the refusal are in line, where the declaration's name is
 abbrev pub TextIn : Refusal → Type 0
-TextIn e = is_in_line (refusal_text e) ≡ true
+TextIn e = (is_in_line (refusal_text e) ≡ true) × AreInLine (candidate_lines (candidate_of e))
 
 pub at-word : (kind : List ℕ) (offset : ℕ) (word : List ℕ) → is_in_line kind ≡ true → is_in_line word ≡ true → is_in_line (kind ++ decimal offset ++ codes " " ++ word) ≡ true
 at-word kind offset word h k =
     both (kind ++ decimal offset ++ codes " ") word (both (kind ++ decimal offset) (codes " ") (both kind (decimal offset) h (decimal-in offset)) refl) k
 
 pub unresolved-in : (e : ResolveStop) → IsStopIn e → TextIn (refusals.unresolved e)
-unresolved-in unresolved.Memory h = refl
-unresolved-in unresolved.Deep h = refl
-unresolved-in (unresolved.UnknownName offset word) h = at-word (codes "UnknownName ") offset word refl h
-unresolved-in (unresolved.Duplicate offset word) h = at-word (codes "Duplicate ") offset word refl h
-unresolved-in (unresolved.WrongArity offset word) h = at-word (codes "WrongArity ") offset word refl h
-unresolved-in (unresolved.NotLinear offset word) h = at-word (codes "NotLinear ") offset word refl h
+unresolved-in unresolved.Memory h = (refl, tt)
+unresolved-in unresolved.Deep h = (refl, tt)
+unresolved-in (unresolved.UnknownName offset word) h = (at-word (codes "UnknownName ") offset word refl h, tt)
+unresolved-in (unresolved.Duplicate offset word) h = (at-word (codes "Duplicate ") offset word refl h, tt)
+unresolved-in (unresolved.WrongArity offset word) h = (at-word (codes "WrongArity ") offset word refl h, tt)
+unresolved-in (unresolved.NotLinear offset word) h = (at-word (codes "NotLinear ") offset word refl h, tt)
 
 pub term-in : (S : Signature) → NamesIn S → (t : tree.Term) → is_in_line (term_text S t) ≡ true
 term-in S names t = spelled-in S (has-names S names) false t
@@ -274,25 +276,26 @@ part-in names OfBody h = refl
 part-in names (OfParameter k) h = both (codes "param ") (decimal k) refl (decimal-in k)
 part-in names (OfConstructor n) h = both (codes "con ") (refusals.name_in names n) refl (chosen-in names n h)
 
-denied-in : (S : Signature) (names : List (List ℕ)) → NamesIn S → AreInLine names → (site : Site) (d : Denial) → TextIn (refusals.ill_typed S (refusals.part_of names site) d)
-denied-in S names hs hn site d =
-    let part = part_text (refusals.part_of names site) in
-    let reason = reason_text S d.reason in
-    let ctx = context_text S d.ctx in
-    let place = place_text d.place in
-    both (codes "IllTyped " ++ part ++ codes " " ++ place ++ codes " " ++ ctx ++ codes " ") reason
-    (both (codes "IllTyped " ++ part ++ codes " " ++ place ++ codes " " ++ ctx) (codes " ")
-    (both (codes "IllTyped " ++ part ++ codes " " ++ place ++ codes " ") ctx
-    (both (codes "IllTyped " ++ part ++ codes " " ++ place) (codes " ")
-    (both (codes "IllTyped " ++ part ++ codes " ") place
-    (both (codes "IllTyped " ++ part) (codes " ") (both (codes "IllTyped ") part refl (part-in names site hn)) refl) (place-in d.place)) refl) (context-in S hs d.ctx)) refl)
-    (reason-in S hs d.reason)
+pub denial-in : (place context reason : List ℕ) → is_in_line context ≡ true → is_in_line reason ≡ true → is_in_line (denial_text place context reason) ≡ true
+denial-in place context reason h k =
+    both (place_text place ++ codes " " ++ context ++ codes " ") reason
+    (both (place_text place ++ codes " " ++ context) (codes " ")
+    (both (place_text place ++ codes " ") context (both (place_text place) (codes " ") (place-in place) refl) h) refl) k
+
+-- the checker rejects a part
+pub ill-typed-in : (S : Signature) → NamesIn S → (part : PartName) → is_in_line (part_text part) ≡ true → (d : Denial) → TextIn (refusals.ill_typed S part d)
+ill-typed-in S names part h d = (
+  both (codes "IllTyped " ++ part_text part ++ codes " ") (denial_text d.place (context_text S d.ctx) (reason_text S d.reason))
+      (both (codes "IllTyped " ++ part_text part) (codes " ") (both (codes "IllTyped ") (part_text part) refl h) refl)
+      (denial-in d.place (context_text S d.ctx) (reason_text S d.reason) (context-in S names d.ctx) (reason-in S names d.reason)),
+  tt,
+)
 
 pub stopped-in : (fuel : ℕ) (e : Stop) → TextIn (refusals.stopped fuel e)
-stopped-in fuel stop.Memory = refl
-stopped-in fuel stop.Fuel = both (codes "Fuel ") (decimal fuel) refl (decimal-in fuel)
-stopped-in fuel stop.Deep = refl
-stopped-in fuel stop.PoolFull = refl
+stopped-in fuel stop.Memory = (refl, tt)
+stopped-in fuel stop.Fuel = (both (codes "Fuel ") (decimal fuel) refl (decimal-in fuel), tt)
+stopped-in fuel stop.Deep = (refl, tt)
+stopped-in fuel stop.PoolFull = (refl, tt)
 
 argument-in : (kind owner : List ℕ) (k : ℕ) → is_in_line kind ≡ true → is_in_line owner ≡ true → is_in_line (kind ++ owner ++ codes " " ++ decimal k) ≡ true
 argument-in kind owner k h j = both (kind ++ owner ++ codes " ") (decimal k) (both (kind ++ owner) (codes " ") (both kind owner h j) refl) (decimal-in k)
@@ -300,13 +303,13 @@ argument-in kind owner k h j = both (kind ++ owner ++ codes " ") (decimal k) (bo
 pub unentered-in : (over : Site → Signature) (names : List (List ℕ)) → ((site : Site) → NamesIn (over site)) → AreInLine names → (x : Option Word) → IfSome x WordIn → (fuel : ℕ) (e : FamilyStop) →
     TextIn (refusals.unentered over names x fuel e)
 unentered-in over names hs hn x h fuel (Stopped e) = stopped-in fuel e
-unentered-in over names hs hn x h fuel (Denied site d) = denied-in (over site) names (hs site) hn site d
-unentered-in over names hs hn x h fuel (family.NotPositive n k) = argument-in (codes "NotPositive ") (refusals.name_in names n) k refl (chosen-in names n hn)
-unentered-in over names hs hn x h fuel (family.TooLarge None k) = argument-in (codes "IndexTooLarge ") (codes "-") k refl refl
-unentered-in over names hs hn x h fuel (family.TooLarge (Some n) k) = argument-in (codes "IndexTooLarge ") (refusals.name_in names n) k refl (chosen-in names n hn)
-unentered-in over names hs hn x h fuel family.BadFamily = refl
-unentered-in over names hs hn (Some x) h fuel family.Duplicate = at-word (codes "Duplicate ") x.start x.text refl h
-unentered-in over names hs hn None h fuel family.Duplicate = refl
+unentered-in over names hs hn x h fuel (Denied site d) = ill-typed-in (over site) (hs site) (refusals.part_of names site) (part-in names site hn) d
+unentered-in over names hs hn x h fuel (family.NotPositive n k) = (argument-in (codes "NotPositive ") (refusals.name_in names n) k refl (chosen-in names n hn), tt)
+unentered-in over names hs hn x h fuel (family.TooLarge None k) = (argument-in (codes "IndexTooLarge ") (codes "-") k refl refl, tt)
+unentered-in over names hs hn x h fuel (family.TooLarge (Some n) k) = (argument-in (codes "IndexTooLarge ") (refusals.name_in names n) k refl (chosen-in names n hn), tt)
+unentered-in over names hs hn x h fuel family.BadFamily = (refl, tt)
+unentered-in over names hs hn (Some x) h fuel family.Duplicate = (at-word (codes "Duplicate ") x.start x.text refl h, tt)
+unentered-in over names hs hn None h fuel family.Duplicate = (refl, tt)
 
 -- Declarations.
 
@@ -346,9 +349,9 @@ refused-in S fuel (surf.Def x ty body) names h =
     resolved-in EntryNamesIn S fuel x (session.resolve_definition S x ty body) (definition-in S x ty body h.0 h.1 h.2) (λ raw n. entry-refused-in S names x.start fuel raw n)
 refused-in S fuel (surf.Data x params ty cons) names h =
     resolved-in EntryNamesIn S fuel x (session.resolve_family S x params ty cons) (data-in S x params ty cons h.0 h.1 h.2 h.3) (λ raw n. entry-refused-in S names x.start fuel raw n)
-refused-in S fuel (surf.Decide x f e) names h = both (codes "NotYet ") (decimal x.start) refl (decimal-in x.start)
-refused-in S fuel (surf.Mutual params members f tag tags) names h = both (codes "NotYet ") (decimal (first_name members f).start) refl (decimal-in (first_name members f).start)
-refused-in S fuel (surf.Fun x ty clauses) names h = both (codes "NotYet ") (decimal x.start) refl (decimal-in x.start)
+refused-in S fuel (surf.Decide x f e) names h = (both (codes "NotYet ") (decimal x.start) refl (decimal-in x.start), tt)
+refused-in S fuel (surf.Mutual params members f tag tags) names h = (both (codes "NotYet ") (decimal (first_name members f).start) refl (decimal-in (first_name members f).start), tt)
+refused-in S fuel (surf.Fun x ty clauses) names h = (both (codes "NotYet ") (decimal x.start) refl (decimal-in x.start), tt)
 
 -- an accepted declaration has a name in line, and the names of its signature are in line
 pub record AcceptedIn (a : session.Declared) : Type 0 where

@@ -1,7 +1,8 @@
 -- The mode `work` counts the clauses of the lines that `compile` writes.
 use Rattle.std.proofs.Common.{ℕ, true, false, List, [], ◌∷◌, Result, Ok, Err, refl, sym, ap, ◌∙◌, append_assoc}
 use Rattle.theory.specs.Signatures.{Signature}
-use Rattle.function_session.specs.Elaborating.{Elaborated, Refused, elaborate_of}
+use Rattle.elab_session.specs.declared.refusal.Refusal.{Refusal}
+use Rattle.function_session.specs.Elaborating.{Elaborated, elaborate_of}
 use Rattle.elim_program.specs.declared.counts.Counts.{Counts}
 use Rattle.elim_program.specs.Outputs.{Block, accepted_lines, after, block, declarations, declared_block, followed}
 use Rattle.elim_program.specs.WorkLaws.{IsCountOf, Accepting, WorkCountsOutput, on_accepting, acceptings}
@@ -19,7 +20,7 @@ pub work_counts_output : WorkCountsOutput
 work_counts_output fuel S [] c = (refl, refl)
 work_counts_output fuel S (d ∷ ds) c = by (λ T more. work_counts_output fuel T ds more) (elaborate_of S fuel d)
   where
-    by : ((T : Signature) (more : Counts) → IsCountOf more (acceptings fuel T ds) (declarations fuel T ds) (worked fuel T ds more)) → (r : Result Elaborated Refused)
+    by : ((T : Signature) (more : Counts) → IsCountOf more (acceptings fuel T ds) (declarations fuel T ds) (worked fuel T ds more)) → (r : Result Elaborated Refusal)
         → IsCountOf c (on_accepting S r (λ T. acceptings fuel T ds)) (followed (declared_block S d r) (declarations fuel (after S r) ds)) (on_worked d r (λ a. worked fuel a.signature ds (with_accepted c a)))
     by rec (Ok a) = count_more S a c (acceptings fuel a.signature ds) (declarations fuel a.signature ds) (worked fuel a.signature ds (with_accepted c a)) (rec a.signature (with_accepted c a))
     by rec (Err e) = refl

@@ -5,12 +5,13 @@ use Rattle.theory.specs.Signatures.{Signature}
 use Rattle.core_terms.specs.Answers.{Unless}
 use Rattle.surface_syntax.specs.TreeMeanings.{decl_of}
 use Rattle.surface_syntax.specs.declared.tree.Decl.{Decl}
+use Rattle.elab_session.specs.declared.refusal.Refusal.{Refusal}
 use Rattle.function_session.specs.Elaborating.{Elaborated, elaborate_of}
-use Rattle.function_session.specs.Meanings.{IsUnforeseen, refused_of}
-use Rattle.function_session.specs.declared.refused.Refused.{Refused}
+use Rattle.elab_session.specs.Refusals.{IsUnforeseen}
 use Rattle.elim_program.specs.Blocks.{Makes}
 use Rattle.elim_program.specs.Counting.{Refuses}
-use Rattle.elim_program.specs.Outputs.{block, declared_name, refused_lines}
+use Rattle.elim_program.specs.Outputs.{block, declared_name}
+use Rattle.elim_program.specs.Refusals.{refused_lines}
 use Rattle.elim_program.specs.WorkTexts.{numbered, template, text_from}
 use Rattle.elim_program.specs.Works.{on_worked, with_accepted, worked}
 use Rattle.elim_program.specs.declared.block.Block.{Block}
@@ -38,13 +39,13 @@ no_ok : (b : Block) → Made b ≡ Err NoMemory → ⊥
 no_ok b e = cc
 
 -- the first declaration is refused
-pub refused_first : (fuel : ℕ) (S : Signature) (decls : List Decl) (d : Decl) (c : Counts) (e : Refused) (b : Block) (name : List ℕ) → 1 ≤ length decls → d ≡ get_or decls 0 d
-    → name ≡ declared_name (decl_of d) → Makes (Made b) (block (refused_lines name (refused_of e)) true) → (IsUnforeseen e → Made b ≡ Err NoMemory)
-    → Unless (IsUnforeseen e) (Err (refused_of e) ≡ elaborate_of S fuel (decl_of d)) → Refuses b (worked fuel S (map decl_of decls) c)
+pub refused_first : (fuel : ℕ) (S : Signature) (decls : List Decl) (d : Decl) (c : Counts) (e : Refusal) (b : Block) (name : List ℕ) → 1 ≤ length decls → d ≡ get_or decls 0 d
+    → name ≡ declared_name (decl_of d) → Makes (Made b) (block (refused_lines name e) true) → (IsUnforeseen e → Made b ≡ Err NoMemory)
+    → Unless (IsUnforeseen e) (Err e ≡ elaborate_of S fuel (decl_of d)) → Refuses b (worked fuel S (map decl_of decls) c)
 refused_first fuel S [] d c e b name some first same made memory answer = absurd (omega (arith, some))
 refused_first fuel S (d ∷ ds) x c e b name some first same made memory answer =
     let go : Elaborated → Result Counts (List (List ℕ)) = λ a. worked fuel a.signature (map decl_of ds) (with_accepted c a) in
-    let is : Err (refused_of e) ≡ elaborate_of S fuel (decl_of d) =
-    subst (λ y. Err (refused_of e) ≡ elaborate_of S fuel (decl_of y)) first (answer (λ u. no_ok b (memory u))) in
+    let is : Err e ≡ elaborate_of S fuel (decl_of d) =
+    subst (λ y. Err e ≡ elaborate_of S fuel (decl_of y)) first (answer (λ u. no_ok b (memory u))) in
     let named : name ≡ declared_name (decl_of d) = same ∙ ap (λ y. declared_name (decl_of y)) first in
-    subst (λ m. Refuses b (on_worked (decl_of d) m go)) is (subst (λ n. Makes (Made b) (block (refused_lines n (refused_of e)) true)) named made)
+    subst (λ m. Refuses b (on_worked (decl_of d) m go)) is (subst (λ n. Makes (Made b) (block (refused_lines n e) true)) named made)

@@ -4,7 +4,6 @@ pub mod ClauseTexts
 pub mod CommandLine
 pub mod Counting
 pub mod DefinedOutputs
-pub mod FunctionRefusals
 pub mod Headline
 pub mod Lines
 pub mod Outputs

@@ -5,13 +5,13 @@ use Rattle.theory.specs.Prelude.{prelude}
 use Rattle.surface_syntax.specs.Trees as surf
 use Rattle.resolve.specs.DeclaredNames.{declared_word}
 use Rattle.core_text.specs.EntryText.{entry_text}
-use Rattle.function_session.specs.Elaborating.{Elaborated, Refused, Declaration, Function, elaborate_of}
+use Rattle.function_session.specs.Elaborating.{Elaborated, elaborate_of}
+use Rattle.elab_session.specs.declared.refusal.Refusal.{Refusal}
 use Rattle.elim_program.specs.declared.status.Status.{Status}
 use Rattle.elim_program.specs.declared.status.Status.TheVariants as status
 use Rattle.elim_program.specs.declared.words.Command.{Command}
 use Rattle.elim_program.specs.ClauseTexts.{clause_lines}
-use Rattle.elim_program.specs.FunctionRefusals as function
-use Rattle.elim_program.specs.Refusals.{stop_line, refusal_line}
+use Rattle.elim_program.specs.Refusals.{refused_lines, stop_line}
 use Rattle.elim_program.specs.Texts.{Answer}
 
 -- lines, and whether the last one refuses
@@ -47,18 +47,13 @@ abbrev pub accepted_lines : Signature → Elaborated → List (List ℕ)
 accepted_lines S a =
     lines_after S a.signature ++ (clause_lines a.signature a.lines ++ accepted_line a.name ∷ [])
 
--- the lines of what is refused under a name
-abbrev pub refused_lines : (name : List ℕ) → Refused → List (List ℕ)
-refused_lines name (Declaration e) = refusal_line name e ∷ []
-refused_lines name (Function e) = function.refusal_lines name e
-
 -- the lines of a declaration over S
-abbrev pub declared_block : Signature → surf.Decl → Result Elaborated Refused → Block
+abbrev pub declared_block : Signature → surf.Decl → Result Elaborated Refusal → Block
 declared_block S d (Ok a) = block (accepted_lines S a) false
 declared_block S d (Err e) = block (refused_lines (declared_name d) e) true
 
 -- the signature after a declaration
-abbrev pub after : Signature → Result Elaborated Refused → Signature
+abbrev pub after : Signature → Result Elaborated Refusal → Signature
 after S (Ok a) = a.signature
 after S (Err e) = S
 

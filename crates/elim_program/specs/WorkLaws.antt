@@ -2,7 +2,8 @@
 use Rattle.std.specs.Prelude.{◌≡◌, ℕ, true, false, List, [], ◌∷◌, ◌++◌, Result, Ok, Err}
 use Rattle.theory.specs.Signatures.{Signature}
 use Rattle.surface_syntax.specs.Trees as surf
-use Rattle.function_session.specs.Elaborating.{Elaborated, Refused, elaborate_of}
+use Rattle.elab_session.specs.declared.refusal.Refusal.{Refusal}
+use Rattle.function_session.specs.Elaborating.{Elaborated, elaborate_of}
 use Rattle.elim_program.specs.declared.counts.Counts.{Counts}
 use Rattle.elim_program.specs.Outputs.{Block, accepted_lines, block, declarations}
 use Rattle.elim_program.specs.Works.{with_accepted, worked}
@@ -11,7 +12,7 @@ use Rattle.elim_program.specs.Works.{with_accepted, worked}
 abbrev pub Accepting : Type 0
 Accepting = Signature × Elaborated
 
-abbrev pub on_accepting : Signature → Result Elaborated Refused → (Signature → List Accepting) → List Accepting
+abbrev pub on_accepting : Signature → Result Elaborated Refusal → (Signature → List Accepting) → List Accepting
 on_accepting S (Ok a) go = (S, a) ∷ go a.signature
 on_accepting S (Err e) go = []
 

@@ -5,11 +5,12 @@ use Rattle.theory.specs.Signatures.{Signature}
 use Rattle.surface_syntax.specs.Trees as surf
 use Rattle.clause_reports.specs.Reports.{Line, Definitional, Proved, Shadowed, Absurd}
 use Rattle.clause_reports.specs.elaboration.Functions.{ClauseLine}
-use Rattle.function_session.specs.Elaborating.{Elaborated, Refused, elaborate_of}
+use Rattle.elab_session.specs.declared.refusal.Refusal.{Refusal}
+use Rattle.function_session.specs.Elaborating.{Elaborated, elaborate_of}
 use Rattle.elim_program.specs.declared.counts.Counts.{Counts}
 use Rattle.elim_program.specs.declared.words.Work.{Work}
-use Rattle.elim_program.specs.Outputs.{Block, block, declared_name, refused_lines, Output, compiled}
-use Rattle.elim_program.specs.Refusals.{stop_line}
+use Rattle.elim_program.specs.Outputs.{Block, block, declared_name, Output, compiled}
+use Rattle.elim_program.specs.Refusals.{refused_lines, stop_line}
 use Rattle.elim_program.specs.Texts.{Answer}
 use Rattle.elim_program.specs.WorkTexts.{summary_line}
 
@@ -37,7 +38,7 @@ abbrev pub with_accepted : Counts → Elaborated → Counts
 with_accepted c a = all_counted (one_accepted c) a.lines
 
 -- the counts after a declaration, or the lines of its refusal
-abbrev pub on_worked : surf.Decl → Result Elaborated Refused → (Elaborated → Result Counts (List (List ℕ))) → Result Counts (List (List ℕ))
+abbrev pub on_worked : surf.Decl → Result Elaborated Refusal → (Elaborated → Result Counts (List (List ℕ))) → Result Counts (List (List ℕ))
 on_worked d (Ok a) go = go a
 on_worked d (Err e) go = Err (refused_lines (declared_name d) e)
 

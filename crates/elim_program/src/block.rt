@@ -1,24 +1,21 @@
 ghost use Rattle.std.specs.Prelude.{◌≡◌, ◌≤◌, ◌<◌, ◌+◌, ◌-◌, ◌++◌, ◌∷◌, [], length, map, slice_get, codes, true, false, Err, OnErr, OnOk};
+ghost use Rattle.elab_session.specs.Refusals.{IsUnforeseen};
 ghost use Rattle.elim_program.specs.declared.status.Status.TheVariants.{NoMemory};
 ghost use Rattle.elim_program.specs.Blocks.{Makes};
 ghost use Rattle.elim_program.specs.ClauseTexts.{clause_lines};
-ghost use Rattle.elim_program.specs.FunctionRefusals.{refusal_lines};
 ghost use Rattle.elim_program.specs.Lines.{text_of};
 ghost use Rattle.elim_program.specs.Outputs as spec;
-ghost use Rattle.elim_program.specs.Refusals.{stop_line, refusal_line};
+ghost use Rattle.elim_program.specs.Refusals.{refusal_line, refused_lines, stop_line};
 ghost use Rattle.elim_program.specs.Verifies.{verified_line};
 ghost use Rattle.function_session.specs.function_lines.LineMeanings.{clause_line_of};
-ghost use Rattle.function_checks.specs.function_refusals.RefusalMeanings.{refusal_of};
 
 use crate::clause_texts::write_clauses;
-use crate::refusals::{write_refusal, write_stop};
-use crate::refused_functions::write_function_refusal;
+use crate::refusals::{write_refusal_line, write_refused, write_stop};
 use crate::{Status, TextStop};
 use core_sig::Signature;
 use core_terms::Name;
 use core_text::print_entry;
 use elab_session::Refusal;
-use function_checks::function_refusals::Refusal as FunctionRefusal;
 use function_session::function_lines::ClauseLine;
 use std::alloc::Global;
 
@@ -43,32 +40,28 @@ pub(crate) fn stop_block(alloc: Global, stop: TextStop) -> Result<Block, Status>
     })
 }
 
-/// The last line, where a declaration is refused.
+/// The last line, where an entry of a core file is refused.
 pub(crate) fn refusal_block(alloc: Global, name: &Name, refusal: &Refusal) -> Result<Block, Status>
     ensures { Makes result (spec.block (refusal_line name.now refusal.now ∷ []) true) }
 {
     let mut text = Vec::new(alloc);
-    text.extend_from_slice(b"# refused ")?;
-    text.extend_from_slice(name.as_slice())?;
-    text.extend_from_slice(b" ")?;
-    write_refusal(&mut text, refusal)?;
-    text.extend_from_slice(b"\n")?;
+    write_refusal_line(&mut text, name, refusal)?;
     Ok(Block {
         text,
         refused: true,
     })
 }
 
-/// The lines of a function that is refused for a reason that only functions have.
-pub(crate) fn function_refusal_block(
-    alloc: Global,
-    name: &Name,
-    refusal: &FunctionRefusal,
-) -> Result<Block, Status>
-    ensures { Makes result (spec.block (refusal_lines name.now (refusal_of refusal.now)) true) }
+/// The lines of a declaration that is refused, or `NoMemory`.
+pub(crate) fn refused_block(alloc: Global, name: &Name, refusal: &Refusal) -> Result<Block, Status>
+    ensures made { Makes result (spec.block (refused_lines name.now refusal.now) true) }
+    ensures memory { IsUnforeseen refusal.now → result ≡ Err NoMemory }
 {
+    if matches!(refusal, Refusal::Memory) {
+        return Err(Status::NoMemory);
+    }
     let mut text = Vec::new(alloc);
-    write_function_refusal(&mut text, name, refusal)?;
+    write_refused(&mut text, name, refusal)?;
     Ok(Block {
         text,
         refused: true,

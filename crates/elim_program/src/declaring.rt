@@ -1,20 +1,18 @@
-ghost use Rattle.std.specs.Prelude.{◌≡◌, ◌≤◌, ℕ, List, map, true, Err, OnOk};
+ghost use Rattle.std.specs.Prelude.{◌≡◌, ◌≤◌, ℕ, List, map, Err, OnOk};
 ghost use Rattle.std.specs.Io.KnownBytes.{Appends};
 ghost use Rattle.core_terms.specs.Count.{Rose};
 ghost use Rattle.elim_program.specs.Blocks.{Makes};
 ghost use Rattle.elim_program.specs.Outputs as spec;
 ghost use Rattle.elim_program.specs.Runs.{Written};
 ghost use Rattle.function_session.specs.Elaborating.{elaborate_of};
-ghost use Rattle.function_session.specs.Meanings.{IsUnforeseen, refused_of};
 ghost use Rattle.surface_syntax.specs.TreeMeanings.{decl_of};
 
-use crate::block::{accepted_block, function_refusal_block, refusal_block};
+use crate::block::{accepted_block, refused_block};
 use crate::running::send;
 use crate::{Block, Status};
 use core_terms::Name;
-use elab_session::{Refusal, Session};
 use elim_ports::Sink;
-use function_session::{Refused, elaborate};
+use function_session::Session;
 use resolve::declared_word;
 use std::alloc::Global;
 use surface_syntax::Decl;
@@ -26,34 +24,21 @@ pub(crate) fn declared_name(d: &Decl) -> &Name
     &declared_word(d).text
 }
 
-/// The lines of a declaration that is refused, or `NoMemory`.
-pub(crate) fn refused_block(alloc: Global, name: &Name, refused: &Refused) -> Result<Block, Status>
-    ensures made { Makes result (spec.block (spec.refused_lines name.now (refused_of refused.now)) true) }
-    ensures memory { IsUnforeseen refused.now → result ≡ Err Status.NoMemory }
-{
-    match refused {
-        Refused::Declaration(Refusal::Memory) => Err(Status::NoMemory),
-        Refused::Declaration(refusal) => refusal_block(alloc, name, refusal),
-        Refused::Function(refusal) => function_refusal_block(alloc, name, refusal),
-    }
-}
-
 /// Adds a declaration to the session, and makes its lines.
 fn declare(alloc: Global, session: &mut Session, d: &Decl) -> Result<Block, Status>
     ensures made { Makes result (spec.declared_block session.old.signature (decl_of d.now) (elaborate_of session.old.signature session.old.fuel (decl_of d.now))) }
     ensures after { OnOk result (session.new.signature ≡ spec.after session.old.signature (elaborate_of session.old.signature session.old.fuel (decl_of d.now))) }
     ensures fuel { session.new.fuel ≡ session.old.fuel }
 {
-    let from = session.signature().len();
-    match elaborate(alloc, session, d) {
-        Ok(made) => accepted_block(
+    match session.declare(d) {
+        Ok(accepted) => accepted_block(
             alloc,
             session.signature(),
-            from,
-            made.lines.as_slice(),
-            &made.name,
+            accepted.from,
+            accepted.lines.as_slice(),
+            &accepted.name,
         ),
-        Err(refused) => refused_block(alloc, declared_name(d), &refused),
+        Err(refusal) => refused_block(alloc, declared_name(d), &refusal),
     }
 }
 

@@ -1,7 +1,10 @@
 ghost use Rattle.std.specs.Prelude.{◌≡◌, ◌++◌, codes, decimal, OnOk};
+ghost use Rattle.std.specs.Option.{option_copied};
+ghost use Rattle.elim_program.specs.Lines.{text_of};
 ghost use Rattle.elim_program.specs.Refusals as spec;
 
 use crate::TextStop;
+use crate::refused_functions::write_function;
 use core_terms::Name;
 use elab_session::{PartName, Refusal};
 use std::alloc::AllocError;
@@ -54,6 +57,28 @@ pub(crate) fn write_place(out: &mut Vec<u8>, place: &[u8]) -> Result<(), AllocEr
     }
 }
 
+/// Writes a text after another one.
+pub(crate) fn write_after(out: &mut Vec<u8>, before: &[u8], text: &[u8]) -> Result<(), AllocError>
+    ensures { OnOk result (out.new.items ≡ out.old.items ++ (before.now ++ text.now)) }
+{
+    out.extend_from_slice(before)?;
+    out.extend_from_slice(text)
+}
+
+/// Writes a kind, a function or helper, and the number of its clause.
+pub(crate) fn write_clause(
+    out: &mut Vec<u8>,
+    kind: &[u8],
+    function: &Name,
+    clause: u32,
+) -> Result<(), AllocError>
+    ensures { OnOk result (out.new.items ≡ out.old.items ++ (kind.now ++ spec.clause_text function.now clause)) }
+{
+    write_after(out, kind, function.as_slice())?;
+    out.extend_from_slice(b" ")?;
+    write_number(out, clause as u64)
+}
+
 fn write_part(out: &mut Vec<u8>, part: &PartName) -> Result<(), AllocError>
     ensures { OnOk result (out.new.items ≡ out.old.items ++ spec.part_text part.now) }
 {
@@ -61,15 +86,30 @@ fn write_part(out: &mut Vec<u8>, part: &PartName) -> Result<(), AllocError>
         PartName::Ty => out.extend_from_slice(b"type"),
         PartName::Body => out.extend_from_slice(b"body"),
         PartName::Param(k) => write_at(out, b"param ", *k),
-        PartName::Con(name) => {
-            out.extend_from_slice(b"con ")?;
-            out.extend_from_slice(name.as_slice())
-        }
+        PartName::Con(name) => write_after(out, b"con ", name.as_slice()),
+        PartName::Dot(function, clause) => write_clause(out, b"dot ", function, *clause),
+        PartName::Side(function, clause) => write_clause(out, b"side ", function, *clause),
+        PartName::With(function, clause) => write_clause(out, b"with ", function, *clause),
+        PartName::Goal(function, clause) => write_clause(out, b"goal ", function, *clause),
     }
 }
 
+/// Writes where and why the checker rejects something.
+pub(crate) fn write_denial(
+    out: &mut Vec<u8>,
+    place: &[u8],
+    ctx: &[u8],
+    reason: &[u8],
+) -> Result<(), AllocError>
+    ensures { OnOk result (out.new.items ≡ out.old.items ++ spec.denial_text place.now ctx.now reason.now) }
+{
+    write_place(out, place)?;
+    write_after(out, b" ", ctx)?;
+    write_after(out, b" ", reason)
+}
+
 /// Writes the part that the checker rejects.
-fn write_denial(
+fn write_ill_typed(
     out: &mut Vec<u8>,
     part: &PartName,
     place: &[u8],
@@ -77,20 +117,16 @@ fn write_denial(
     reason: &[u8],
 ) -> Result<(), AllocError>
     ensures { OnOk result (out.new.items ≡ out.old.items
-        ++ (codes "IllTyped " ++ spec.part_text part.now ++ codes " " ++ spec.place_text place.now ++ codes " " ++ ctx.now ++ codes " " ++ reason.now)) }
+        ++ (codes "IllTyped " ++ spec.part_text part.now ++ codes " " ++ spec.denial_text place.now ctx.now reason.now)) }
 {
     out.extend_from_slice(b"IllTyped ")?;
     write_part(out, part)?;
     out.extend_from_slice(b" ")?;
-    write_place(out, place)?;
-    out.extend_from_slice(b" ")?;
-    out.extend_from_slice(ctx)?;
-    out.extend_from_slice(b" ")?;
-    out.extend_from_slice(reason)
+    write_denial(out, place, ctx, reason)
 }
 
 /// Writes why a declaration is refused.
-pub(crate) fn write_refusal(out: &mut Vec<u8>, refusal: &Refusal) -> Result<(), AllocError>
+fn write_refusal(out: &mut Vec<u8>, refusal: &Refusal) -> Result<(), AllocError>
     ensures { OnOk result (out.new.items ≡ out.old.items ++ spec.refusal_text refusal.now) }
 {
     match refusal {
@@ -118,14 +154,54 @@ pub(crate) fn write_refusal(out: &mut Vec<u8>, refusal: &Refusal) -> Result<(), 
             place,
             ctx,
             reason,
-        } => write_denial(
+        } => write_ill_typed(
             out,
             part,
             place.as_slice(),
             ctx.as_slice(),
             reason.as_slice(),
         ),
+        other => write_function(out, other),
     }
+}
+
+/// Writes the line of a declaration that is refused.
+pub(crate) fn write_refusal_line(
+    out: &mut Vec<u8>,
+    name: &Name,
+    refusal: &Refusal,
+) -> Result<(), AllocError>
+    ensures { OnOk result (out.new.items ≡ out.old.items ++ (spec.refusal_line name.now refusal.now ++ codes "\n")) }
+{
+    write_after(out, b"# refused ", name.as_slice())?;
+    out.extend_from_slice(b" ")?;
+    write_refusal(out, refusal)?;
+    out.extend_from_slice(b"\n")
+}
+
+/// The core line of an entry that the checker rejects.
+fn candidate_of(refusal: &Refusal) -> Option<&[u8]>
+    ensures { option_copied result ≡ spec.candidate_of refusal.now }
+{
+    match refusal {
+        Refusal::Rejected { line, .. } => Some(line.as_slice()),
+        _ => None,
+    }
+}
+
+/// Writes the lines of a declaration that is refused.
+pub(crate) fn write_refused(
+    out: &mut Vec<u8>,
+    name: &Name,
+    refusal: &Refusal,
+) -> Result<(), AllocError>
+    ensures { OnOk result (out.new.items ≡ out.old.items ++ text_of (spec.refused_lines name.now refusal.now)) }
+{
+    if let Some(line) = candidate_of(refusal) {
+        write_after(out, b"# candidate ", line)?;
+        out.extend_from_slice(b"\n")?;
+    }
+    write_refusal_line(out, name, refusal)
 }
 
 /// Writes why a source file is refused at one of its bytes, or whole.

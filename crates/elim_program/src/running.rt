@@ -18,8 +18,8 @@ use crate::words::{Asked, asks_for_source, work_asked};
 use crate::working::write_work;
 use crate::{Command, Status, TextStop};
 use core_terms::Items;
-use elab_session::Session;
 use elim_ports::{PortError, ReadError, Sink, Source, read_all, write_all};
+use function_session::Session;
 use std::alloc::Global;
 use surface_syntax::Decl;
 

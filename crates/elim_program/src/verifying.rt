@@ -24,8 +24,9 @@ use crate::{Block, Command, Status, TextStop};
 use core_sig::{Entry, Signature};
 use core_terms::{Items, Name, Term, copy_name};
 use core_text::{CoreTextStop, print_term, read_entry, read_head};
-use elab_session::{Refusal, Session};
+use elab_session::Refusal;
 use elim_ports::Sink;
+use function_session::Session;
 use std::alloc::Global;
 
 /// How a symbol is spelled.

@@ -10,9 +10,9 @@ ghost use Rattle.elim_program.specs.WorkTexts.{work_text};
 ghost use Rattle.elim_program.specs.Works as spec;
 ghost use Rattle.surface_syntax.specs.TreeMeanings.{decl_of};
 
-use crate::block::stop_block;
+use crate::block::{refused_block, stop_block};
 use crate::counts::{Counts, none_counted, with_accepted};
-use crate::declaring::{declared_name, refused_block};
+use crate::declaring::declared_name;
 use crate::running::{head, send};
 use crate::text_stop::is_memory;
 use crate::texts::declarations;
@@ -20,9 +20,8 @@ use crate::words::Work;
 use crate::work_texts::{summary, work_text};
 use crate::{Block, Status, TextStop};
 use core_terms::Items;
-use elab_session::Session;
 use elim_ports::Sink;
-use function_session::elaborate;
+use function_session::Session;
 use std::alloc::Global;
 use surface_syntax::Decl;
 
@@ -37,13 +36,13 @@ fn count_declarations(
 {
     match decls {
         [] => Ok(Ok(counts)),
-        [first, rest @ ..] => match elaborate(alloc, session, first) {
-            Ok(made) => {
-                let more = with_accepted(counts, made.lines.as_slice())?;
+        [first, rest @ ..] => match session.declare(first) {
+            Ok(accepted) => {
+                let more = with_accepted(counts, accepted.lines.as_slice())?;
                 count_declarations(alloc, session, rest, more)
             }
-            Err(refused) => {
-                let block = refused_block(alloc, declared_name(first), &refused)?;
+            Err(refusal) => {
+                let block = refused_block(alloc, declared_name(first), &refusal)?;
                 Ok(Err(block))
             }
         },

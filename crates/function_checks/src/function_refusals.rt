@@ -4,5 +4,5 @@ mod refusal;
 mod trees;
 
 pub use denials::{granted, ill_typed, level_too_high};
-pub use refusal::{FailingCall, Owner, Refusal, Text, WrittenPart, or_memory, owner_of};
+pub use refusal::{FailingCall, FunctionRefusal, Owner, Text, WrittenPart, or_memory, owner_of};
 pub use trees::ended;

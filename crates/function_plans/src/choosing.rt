@@ -11,7 +11,7 @@ use crate::smallness::{small_telescope, small_uses};
 use clause_equations::part_name;
 use core_terms::{Items, Stop, Tele, number_of};
 use core_text::print_term;
-use function_checks::function_refusals::{FailingCall, Refusal, owner_of};
+use function_checks::function_refusals::{FailingCall, FunctionRefusal, owner_of};
 use function_checks::function_walks::Session;
 use std::alloc::Global;
 use tree_translation::structural_rec::{Choice, Failing, Use, choose_position};
@@ -49,7 +49,11 @@ fn with_failing(
 }
 
 /// The position that is chosen, or the refusal where no position is usable.
-pub fn position_chosen(alloc: Global, s: Session, choice: &Choice) -> Result<Option<u32>, Refusal>
+pub fn position_chosen(
+    alloc: Global,
+    s: Session,
+    choice: &Choice,
+) -> Result<Option<u32>, FunctionRefusal>
     ensures { Tells (λ position. position) result (spec.position_chosen (session_of s.entry) (choices.choice_of choice.now)) }
 {
     match choice {
@@ -57,7 +61,7 @@ pub fn position_chosen(alloc: Global, s: Session, choice: &Choice) -> Result<Opt
         Choice::At(j) => Ok(Some(*j)),
         Choice::NotSmaller(rows) => {
             let rows = with_failing(alloc, s, rows.as_slice(), Items::new(alloc))?;
-            Err(Refusal::NotSmaller(rows))
+            Err(FunctionRefusal::NotSmaller(rows))
         }
     }
 }
@@ -68,7 +72,7 @@ pub fn chosen(
     s: Session,
     tele: &Tele,
     uses: &Items<Use>,
-) -> Result<Option<u32>, Refusal>
+) -> Result<Option<u32>, FunctionRefusal>
     ensures { Tells (λ position. position) result (chosen_made (session_of s.entry) (tele_of tele.now) (choices.uses_of uses.now)) }
 {
     small_telescope(tele.as_slice())?;

@@ -15,7 +15,7 @@ ghost use Rattle.tree_translation.specs.Recursion as recursion;
 
 use crate::trees::own_tree;
 use core_terms::{Clause, Items, Pat, Stop, Tree, copy_pat};
-use function_checks::function_refusals::Refusal;
+use function_checks::function_refusals::FunctionRefusal;
 use function_checks::function_walks::{Session, Walked};
 use kernel_check::Kernel;
 use leaf_terms::{Part, Recursion};
@@ -84,7 +84,7 @@ pub fn own_finished(
     r: Option<&Recursion>,
     w: Walked,
     kernel: &mut Kernel<'_>,
-) -> Result<Part, Refusal>
+) -> Result<Part, FunctionRefusal>
     requires kernel { kernel.old.signature ≡ s.sig.now }
     requires own { IsOwnWalked s.sig.now (walked_of w) }
     requires order { IsTelescopeOrder (walked_of w).part.tele (recursion.order_of (length w.part.tele) (option_map recursion_of (option_copied r))) }

@@ -16,7 +16,7 @@ use crate::finishing::finished;
 use crate::trees::tree_of_clauses;
 use clause_equations::part_name;
 use core_terms::{Items, Tree, number_of};
-use function_checks::function_refusals::Refusal;
+use function_checks::function_refusals::FunctionRefusal;
 use function_checks::function_walks::{Session, Walked};
 use kernel_check::Kernel;
 use leaf_terms::{Part, Recursion};
@@ -39,7 +39,7 @@ fn helper_tree(
     number: u32,
     w: &Walked,
     kernel: &mut Kernel<'_>,
-) -> Result<Tree, Refusal>
+) -> Result<Tree, FunctionRefusal>
     requires kernel { kernel.old.signature ≡ s.sig.now }
     requires given { IsWalked s.sig.now (walked_of w.now) }
     ensures answer { Elaborates case_tree_of result kernel.new.left (walking s.entry.sig.now (part_named s.entry.name.now number) (split_of s.entry.sig.now (walked_of w.now).part.tele (walked_of w.now).part.goal (walked_of w.now).part.terms (walked_of w.now).clauses kernel.old.left)) }
@@ -71,7 +71,7 @@ pub fn helpers_finished(
     mut helpers: Vec<Walked>,
     mut made: Items<Part>,
     kernel: &mut Kernel<'_>,
-) -> Result<Items<Part>, Refusal>
+) -> Result<Items<Part>, FunctionRefusal>
     requires kernel { kernel.old.signature ≡ s.sig.now }
     requires given { AreWalked s.sig.now (map walked_of helpers.items) }
     ensures answer { Elaborates parts_of result kernel.new.left (helpers_after (parts_of made) (session_of s.entry) (option_map recursion_of (option_copied r.entry)) level number (map walked_of helpers.entry.items) kernel.old.left) }

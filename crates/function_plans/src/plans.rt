@@ -18,7 +18,7 @@ use crate::finishing::own_finished;
 use crate::helpers::helpers_finished;
 use core_sig::Signature;
 use core_terms::{Items, Stop, Term, copy_name};
-use function_checks::function_refusals::Refusal;
+use function_checks::function_refusals::FunctionRefusal;
 use function_checks::function_walks::{Session, Walked};
 use kernel_check::Kernel;
 use leaf_terms::{Part, Plan, Recursion, recursion_at};
@@ -47,7 +47,7 @@ fn with_own(
     r: Option<&Recursion>,
     w: Walked,
     kernel: &mut Kernel<'_>,
-) -> Result<Items<Part>, Refusal>
+) -> Result<Items<Part>, FunctionRefusal>
     requires kernel { kernel.old.signature ≡ s.sig.now }
     requires own { IsOwnWalked s.sig.now (walked_of w) }
     requires order { IsTelescopeOrder (walked_of w).part.tele (recursion.order_of (length w.part.tele) (option_map recursion_of (option_copied r))) }
@@ -70,7 +70,7 @@ fn all_parts(
     w: Walked,
     helpers: Vec<Walked>,
     kernel: &mut Kernel<'_>,
-) -> Result<Items<Part>, Refusal>
+) -> Result<Items<Part>, FunctionRefusal>
     requires kernel { kernel.old.signature ≡ s.sig.now }
     requires own { IsOwnWalked s.sig.now (walked_of w) }
     requires order { IsTelescopeOrder (walked_of w).part.tele (recursion.order_of (length w.part.tele) (option_map recursion_of (option_copied r))) }
@@ -93,7 +93,7 @@ fn parts_at(
     w: Walked,
     helpers: Vec<Walked>,
     kernel: &mut Kernel<'_>,
-) -> Result<Items<Part>, Refusal>
+) -> Result<Items<Part>, FunctionRefusal>
     requires kernel { kernel.old.signature ≡ s.sig.now }
     requires own { IsOwnWalked s.sig.now (walked_of w) }
     requires helpers { AreWalked s.sig.now (map walked_of helpers.items) }
@@ -118,7 +118,7 @@ pub fn plan(
     helpers: Vec<Walked>,
     uses: &Items<Use>,
     kernel: &mut Kernel<'_>,
-) -> Result<Plan, Refusal>
+) -> Result<Plan, FunctionRefusal>
     requires kernel { kernel.old.signature ≡ s.sig.now }
     requires own { IsOwnWalked s.sig.now (walked_of w) }
     requires helpers { AreWalked s.sig.now (map walked_of helpers.items) }

@@ -18,7 +18,7 @@ ghost use Rattle.unifier.specs.Conditions.{most_levels};
 use clause_splitting::split_with;
 use core_sig::Signature;
 use core_terms::{Clause, Items, Tele, Term, Tree, number_of};
-use function_checks::function_refusals::{Refusal, ended};
+use function_checks::function_refusals::{FunctionRefusal, ended};
 use function_checks::function_walks::{Session, Walked};
 use function_entries::ordered_variables;
 use kernel_check::Kernel;
@@ -35,7 +35,7 @@ pub(crate) fn tree_of_clauses(
     terms: &Tele,
     clauses: &Items<Clause>,
     kernel: &mut Kernel<'_>,
-) -> Result<Tree, Refusal>
+) -> Result<Tree, FunctionRefusal>
     requires kernel { kernel.old.signature ≡ sig.now }
     requires given { IsGiven sig.now (tele_of ctx.now) (tree_of goal.now) (tele_of terms.now) }
     requires clauses { AreClausesFor sig.now (tele_of terms.now) (clauses_of clauses.now) }
@@ -59,7 +59,7 @@ fn tree_in_order(
     count: u32,
     order: &[u32],
     kernel: &mut Kernel<'_>,
-) -> Result<Tree, Refusal>
+) -> Result<Tree, FunctionRefusal>
     requires kernel { kernel.old.signature ≡ s.sig.now }
     requires own { IsOwnWalked s.sig.now (walked_of w.now) }
     requires count { count ≡ length w.now.part.tele }
@@ -91,7 +91,7 @@ pub(crate) fn own_tree(
     r: Option<&Recursion>,
     w: &Walked,
     kernel: &mut Kernel<'_>,
-) -> Result<Tree, Refusal>
+) -> Result<Tree, FunctionRefusal>
     requires kernel { kernel.old.signature ≡ s.sig.now }
     requires own { IsOwnWalked s.sig.now (walked_of w.now) }
     requires order { IsTelescopeOrder (walked_of w.now).part.tele (recursion.order_of (length w.now.part.tele) (option_map recursion_of (option_copied r))) }

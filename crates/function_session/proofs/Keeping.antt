@@ -16,17 +16,17 @@ use Rattle.function_session.proofs.function_lines.FunctionAnswers.{function-answ
 use Rattle.function_session.proofs.function_lines.Results.{longer-ready}
 use Rattle.elab_session.specs.Declaring.{Declared, accepted_as, declare_of}
 use Rattle.elab_session.specs.Sessions.{IsReady}
-use Rattle.elab_session.specs.declared.refusal.Refusal as session
+use Rattle.elab_session.specs.declared.refusal.Refusal.{Refusal}
 use Rattle.elab_session.proofs.Resolved.{together}
 use Rattle.elab_session.proofs.Written.{declare-extends, declare-ready}
-use Rattle.function_session.specs.Elaborating.{Elaborated, Refused, elaborate_function, enter_function, on_function, on_lines, with_lines, without_lines}
+use Rattle.function_session.specs.Elaborating.{Elaborated, elaborate_function, enter_function, on_function, on_lines, with_lines, without_lines}
 use Rattle.function_session.specs.Laws.{ElaborateKeepsReady, KeepsReady}
 
-pub without_lines-has : (P : Elaborated → Type 0) (r : Result Declared session.Refusal) → IfOk r (λ d. P (with_lines d [])) → IfOk (without_lines r) P
+pub without_lines-has : (P : Elaborated → Type 0) (r : Result Declared Refusal) → IfOk r (λ d. P (with_lines d [])) → IfOk (without_lines r) P
 without_lines-has P (Ok d) h = h
 without_lines-has P (Err e) h = tt
 
-pub on_function-has : (P : Elaborated → Type 0) (r : Result Function ResolveStop) (go : Function → Result Elaborated Refused)
+pub on_function-has : (P : Elaborated → Type 0) (r : Result Function ResolveStop) (go : Function → Result Elaborated Refusal)
     → ((f : Function) → r ≡ Ok f → IfOk (go f) P) → IfOk (on_function r go) P
 on_function-has P (Ok f) go h = h f refl
 on_function-has P (Err e) go h = tt

@@ -7,11 +7,12 @@ use Rattle.surface_syntax.specs.declared.tree.Word.{Word}
 use Rattle.resolve.specs.Functions as function
 use Rattle.resolve.specs.declared.stop.ResolveStop.{ResolveStop}
 use Rattle.clause_reports.specs.elaboration.Functions.{ClauseLine, Lines}
-use Rattle.clause_reports.specs.elaboration.Refusals as refusal
+use Rattle.clause_reports.specs.elaboration.Refusals as function_refusals
 use Rattle.function_session.specs.function_lines.FunctionMade.{function_made}
 use Rattle.elab_session.specs.Declaring.{Declared, accepted_as, declare_of}
-use Rattle.elab_session.specs.Refusals.{stopped, unresolved}
-use Rattle.elab_session.specs.declared.refusal.Refusal as session
+use Rattle.elab_session.specs.Refusals.{unresolved}
+use Rattle.elab_session.specs.declared.refusal.Refusal.{Refusal}
+use Rattle.function_session.specs.Refusals.{refused_function}
 
 -- the name of an accepted declaration, the lines of a function's clauses, and the signature that has it
 pub record Elaborated : Type 0 where
@@ -25,42 +26,29 @@ with_lines d lines = record { name = d.name; lines = lines; signature = d.signat
 abbrev pub declared_of : Elaborated → Declared
 declared_of a = accepted_as a.name a.signature
 
--- Why a declaration is refused: as a definition or a family is, or as a function alone is.
-pub data Refused : Type 0 where
-  Declaration : session.Refusal → Refused
-  Function : refusal.Refusal → Refused
-
 -- a definition or a family has no lines
-abbrev pub without_lines : Result Declared session.Refusal → Result Elaborated Refused
+abbrev pub without_lines : Result Declared Refusal → Result Elaborated Refusal
 without_lines (Ok d) = Ok (with_lines d [])
-without_lines (Err e) = Err (Declaration e)
-
--- Why a function that may spend `fuel` units is refused. Units, heights or memory that run out are never a refusal of functions alone.
-abbrev pub refused_function : (fuel : ℕ) → refusal.Refusal → Refused
-refused_function fuel (refusal.Halts e) = Declaration (stopped fuel e)
-refused_function fuel e = Function e
+without_lines (Err e) = Err e
 
 -- the function that is accepted under the name x, or its refusal
-abbrev pub on_lines : Word → (fuel : ℕ) → Result Lines refusal.Refusal → Result Elaborated Refused
+abbrev pub on_lines : Word → (fuel : ℕ) → Result Lines function_refusals.Refusal → Result Elaborated Refusal
 on_lines x fuel (Ok l) = Ok (with_lines (accepted_as x.text l.signature) l.lines)
 on_lines x fuel (Err e) = Err (refused_function fuel e)
 
 -- a function that is resolved enters, with a line for each of its clauses
-abbrev pub enter_function : Signature → (fuel : ℕ) → Word → function.Function → Result Elaborated Refused
+abbrev pub enter_function : Signature → (fuel : ℕ) → Word → function.Function → Result Elaborated Refusal
 enter_function S fuel x f = on_lines x fuel (function_made S f fuel).0
 
 -- goes on with the resolved function
-abbrev pub on_function : Result function.Function ResolveStop → (function.Function → Result Elaborated Refused) → Result Elaborated Refused
+abbrev pub on_function : Result function.Function ResolveStop → (function.Function → Result Elaborated Refusal) → Result Elaborated Refusal
 on_function (Ok f) go = go f
-on_function (Err e) go = Err (Declaration (unresolved e))
+on_function (Err e) go = Err (unresolved e)
 
-abbrev pub elaborate_function : Signature → (fuel : ℕ) → Word → surf.Surf → surf.Clauses → Result Elaborated Refused
+abbrev pub elaborate_function : Signature → (fuel : ℕ) → Word → surf.Surf → surf.Clauses → Result Elaborated Refusal
 elaborate_function S fuel x ty clauses = on_function (function.function S x ty clauses) (enter_function S fuel x)
 
 -- A declaration. One of a form that is not implemented yet is refused at its first name.
-abbrev pub elaborate_of : Signature → (fuel : ℕ) → surf.Decl → Result Elaborated Refused
-elaborate_of S fuel (surf.Def x ty body) = without_lines (declare_of S fuel (surf.Def x ty body))
-elaborate_of S fuel (surf.Data x params ty cons) = without_lines (declare_of S fuel (surf.Data x params ty cons))
-elaborate_of S fuel (surf.Decide x family decision) = without_lines (declare_of S fuel (surf.Decide x family decision))
-elaborate_of S fuel (surf.Mutual params members family tag tags) = without_lines (declare_of S fuel (surf.Mutual params members family tag tags))
+abbrev pub elaborate_of : Signature → (fuel : ℕ) → surf.Decl → Result Elaborated Refusal
 elaborate_of S fuel (surf.Fun x ty clauses) = elaborate_function S fuel x ty clauses
+elaborate_of S fuel d = without_lines (declare_of S fuel d)

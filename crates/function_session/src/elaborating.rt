@@ -1,42 +1,30 @@
-ghost use Rattle.std.specs.Prelude.{◌≡◌, IfOk, OnErr};
-ghost use Rattle.theory.specs.Signatures.{IsPrefix};
+ghost use Rattle.std.specs.Prelude.{◌≡◌, length, IfOk, OnErr};
 ghost use Rattle.surface_syntax.specs.TreeMeanings.{decl_of};
 ghost use Rattle.elab_session.specs.Declaring.{declare_of};
 ghost use Rattle.elab_session.specs.Sessions.{IsReady};
 ghost use Rattle.function_session.specs.Elaborating as spec;
-ghost use Rattle.function_session.specs.Laws.{IsAsWritten};
-ghost use Rattle.function_session.specs.Meanings.{Answers, elaborated_in};
+ghost use Rattle.function_session.specs.Meanings.{Answers};
 
+use crate::Accepted;
 use crate::functions::elaborate_function;
-use crate::{Elaborated, Refused};
 use core_sig::Signature;
 use core_terms::Items;
-use elab_session::{Session, declare};
+use elab_session::{Refusal, declare};
 use std::alloc::Global;
 use surface_syntax::Decl;
 
-/// Adds the entries of a declaration to the session. After a refusal the session is as it was.
-pub fn elaborate(alloc: Global, session: &mut Session, d: &Decl) -> Result<Elaborated, Refused>
-    ensures answer { Answers session.new.signature result (spec.elaborate_of session.old.signature session.old.fuel (decl_of d.now)) }
-    ensures err { OnErr result (session.new ≡ session.old) }
-    ensures fuel { session.new.fuel ≡ session.old.fuel }
-    ensures longer { IsPrefix session.old.signature session.new.signature }
-    ensures ready { IsReady session.new.signature }
-    ensures written { IfOk result (λ a. IsAsWritten session.old.signature session.old.fuel (decl_of d.now) (elaborated_in session.new.signature a)) }
-{
-    elaborate_over(alloc, &mut session.sig, session.fuel, d)
-}
-
-/// Adds the entries of a declaration.
-fn elaborate_over(
+/// Adds the entries of a declaration, which may spend `fuel` units. After a refusal the signature is as it was.
+pub(crate) fn elaborate(
     alloc: Global,
     sig: &mut Signature,
     fuel: u64,
     d: &Decl,
-) -> Result<Elaborated, Refused>
+) -> Result<Accepted, Refusal>
     requires ready { IsReady sig.old }
     ensures answer { Answers sig.new result (spec.elaborate_of sig.old fuel (decl_of d.now)) }
     ensures err { OnErr result (sig.new ≡ sig.old) }
+    ensures begins { IfOk result (λ a. a.from ≡ length sig.old.entries) }
+    ensures ends { IfOk result (λ a. a.to ≡ length sig.new.entries) }
 {
     match d {
         Decl::Fun { .. } => elaborate_function(alloc, sig, fuel, d),
@@ -52,12 +40,19 @@ fn elaborate_plainly(
     sig: &mut Signature,
     fuel: u64,
     d: &Decl,
-) -> Result<Elaborated, Refused>
+) -> Result<Accepted, Refusal>
     requires ready { IsReady sig.old }
     ensures answer { Answers sig.new result (spec.without_lines (declare_of sig.old fuel (decl_of d.now))) }
     ensures err { OnErr result (sig.new ≡ sig.old) }
+    ensures begins { IfOk result (λ a. a.from ≡ length sig.old.entries) }
+    ensures ends { IfOk result (λ a. a.to ≡ length sig.new.entries) }
 {
+    let from = sig.len();
     let name = declare(alloc, sig, fuel, d)?;
-    let lines = Items::new(alloc);
-    Ok(Elaborated { name, lines })
+    Ok(Accepted {
+        name,
+        from,
+        to: sig.len(),
+        lines: Items::new(alloc),
+    })
 }

@@ -1,14 +1,17 @@
 //! One declaration at a time, also a function by clauses: it is resolved and worked on phase by phase, and its entries are accepted
 //! with a line for each clause, or it is refused with the first reason in the written order.
+//!
+//! A `Session` holds the prelude and the entries that were accepted. Each declaration may spend the same number of units. A
+//! refusal leaves the session as it was. The entries of a core file enter by the same checks.
 #![tactic(auto)]
 
-mod elaborated;
+mod accepted;
 mod elaborating;
 pub mod function_lines;
 mod functions;
 pub mod laws;
-mod refused;
+mod refusing;
+mod session;
 
-pub use elaborated::Elaborated;
-pub use elaborating::elaborate;
-pub use refused::Refused;
+pub use accepted::Accepted;
+pub use session::Session;

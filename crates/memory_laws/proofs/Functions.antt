@@ -1,5 +1,5 @@
 -- Functions by clauses, and declarations.
-use Rattle.std.proofs.Common.{◌≢◌, ℕ, ◌+◌, Option, Some, None, Result, Ok, Err, IfErr, List, [], ◌∷◌, ◌++◌, subst as transport}
+use Rattle.std.proofs.Common.{◌≢◌, ℕ, ◌+◌, Option, Some, None, Result, Ok, Err, List, [], ◌∷◌, ◌++◌}
 use Rattle.theory.specs.Terms.{Term}
 use Rattle.theory.specs.Terms.Term.{Var, Sort}
 use Rattle.theory.specs.Signatures.{Signature}
@@ -21,13 +21,14 @@ use Rattle.elab_session.specs.Declaring.{Declared}
 use Rattle.elab_session.specs.declared.refusal.Refusal as session
 use Rattle.elab_session.specs.declared.refusal.Refusal.TheVariants.{Memory}
 use Rattle.function_session.specs.function_lines.FunctionMade.{clause_line, clause_reported, draft_entered, drafts_entered, function_made, level_of, parts_reported, plan_entered, plan_from, reference_of, session_at, translated, values_entered, values_name, walks_reported}
-use Rattle.function_session.specs.Elaborating.{Declaration, Elaborated, Function as OfFunction, Refused, elaborate_of, enter_function, on_function, on_lines, refused_function, without_lines}
+use Rattle.function_session.specs.Elaborating.{elaborate_of, enter_function, on_function, on_lines, without_lines}
+use Rattle.function_session.specs.Refusals.{refused_function}
 use Rattle.exact_laws.proofs.translation_laws.MadeEntries.{translate_made-only_deep}
 use Rattle.memory_laws.specs.Foreseen.{IsForeseen, IsForeseenFunction, IsForeseenName}
 use Rattle.memory_laws.proofs.Runs.{Only, Ends, ok, no, now, done, next, and-then, either, either-ends}
 use Rattle.memory_laws.proofs.Kernel.{infer-sort}
 use Rattle.memory_laws.proofs.Names.{a-function}
-use Rattle.memory_laws.proofs.Declared.{IsForeseenRefusal, declares, of-name, of-stop}
+use Rattle.memory_laws.proofs.Declared.{IsForeseenRefusal, declares, never-memory, of-name, of-stop}
 use Rattle.memory_laws.proofs.Drafts.{draft-enters, name-enters, only-deep}
 use Rattle.memory_laws.proofs.ProofWalks.{recursion-found}
 use Rattle.memory_laws.proofs.Reports.{report}
@@ -103,12 +104,7 @@ makes S f fuel =
 
 -- ---- declarations
 
--- the refusal of a declaration is not out of memory
-abbrev IsForeseenRefused : Refused → Type 0
-IsForeseenRefused (Declaration e) = IsForeseenRefusal e
-IsForeseenRefused (OfFunction e) = Unit {0}
-
-refused : (fuel : ℕ) (e : Refusal) → IsForeseenFunction e → IsForeseenRefused (refused_function fuel e)
+refused : (fuel : ℕ) (e : Refusal) → IsForeseenFunction e → IsForeseenRefusal (refused_function fuel e)
 refused fuel (refusal.Halts e) h = of-stop fuel e h
 refused fuel (refusal.IllTyped part place context reason) h = tt
 refused fuel (refusal.WrongConstructor owner context type) h = tt
@@ -121,28 +117,25 @@ refused fuel (refusal.SelfInType owner) h = tt
 refused fuel (refusal.NotSmaller calls) h = tt
 refused fuel (refusal.Rejected r) h = tt
 
-with-lines : (x : Word) (fuel : ℕ) (r : Result Lines Refusal) → Only IsForeseenFunction r → Only IsForeseenRefused (on_lines x fuel r)
+with-lines : (x : Word) (fuel : ℕ) (r : Result Lines Refusal) → Only IsForeseenFunction r → Only IsForeseenRefusal (on_lines x fuel r)
 with-lines x fuel (Ok l) h = ok
 with-lines x fuel (Err e) h = no (refused fuel e h.is)
 
 with-function : (S : Signature) (fuel : ℕ) (x : Word) (r : Result Function ResolveStop) → Only IsForeseenName r
-    → Only IsForeseenRefused (on_function r (enter_function S fuel x))
+    → Only IsForeseenRefusal (on_function r (enter_function S fuel x))
 with-function S fuel x (Ok f) h = with-lines x fuel _ (makes S f fuel).only
 with-function S fuel x (Err e) h = no (of-name e h.is)
 
-declared : (r : Result Declared session.Refusal) → Only IsForeseenRefusal r → Only IsForeseenRefused (without_lines r)
+declared : (r : Result Declared session.Refusal) → Only IsForeseenRefusal r → Only IsForeseenRefusal (without_lines r)
 declared (Ok d) h = ok
 declared (Err e) h = no h.is
 
-elaborates : (S : Signature) (fuel : ℕ) (d : surf.Decl) → Only IsForeseenRefused (elaborate_of S fuel d)
+elaborates : (S : Signature) (fuel : ℕ) (d : surf.Decl) → Only IsForeseenRefusal (elaborate_of S fuel d)
 elaborates S fuel (surf.Def x ty body) = declared _ (declares S fuel (surf.Def x ty body) fuel).only
 elaborates S fuel (surf.Data x params ty cons) = declared _ (declares S fuel (surf.Data x params ty cons) fuel).only
 elaborates S fuel (surf.Decide x family decision) = declared _ (declares S fuel (surf.Decide x family decision) fuel).only
 elaborates S fuel (surf.Mutual params members family tag tags) = declared _ (declares S fuel (surf.Mutual params members family tag tags) fuel).only
 elaborates S fuel (surf.Fun x ty clauses) = with-function S fuel x _ (a-function S x ty clauses)
 
-no-memory : (r : Result Elaborated Refused) → IfErr r IsForeseenRefused → r ≢ Err (Declaration Memory)
-no-memory r h e = transport (λ x. IfErr x IsForeseenRefused) e h
-
-pub elaborate-needs-no-memory : (S : Signature) (fuel : ℕ) (d : surf.Decl) → elaborate_of S fuel d ≢ Err (Declaration Memory)
-elaborate-needs-no-memory S fuel d = no-memory _ (elaborates S fuel d).is
+pub elaborate-needs-no-memory : (S : Signature) (fuel : ℕ) (d : surf.Decl) → elaborate_of S fuel d ≢ Err Memory
+elaborate-needs-no-memory S fuel d = never-memory _ (elaborates S fuel d).is

@@ -21,7 +21,7 @@ use Rattle.elab_session.specs.Entering.{enter_of}
 use Rattle.elab_session.specs.declared.refusal.Refusal.TheVariants.{Memory}
 use Rattle.clause_reports.specs.elaboration.Functions.{function_of}
 use Rattle.function_session.specs.function_lines.FunctionMade.{function_made}
-use Rattle.function_session.specs.Elaborating.{Declaration, elaborate_of}
+use Rattle.function_session.specs.Elaborating.{elaborate_of}
 use Rattle.memory_laws.specs.Foreseen.{IsForeseen, IsForeseenEntry, IsForeseenFunction, IsForeseenInstance}
 
 -- ---- the kernel
@@ -98,4 +98,4 @@ abbrev pub DeclareNeedsNoMemory : Type 0
 DeclareNeedsNoMemory = (S : Signature) (fuel : ℕ) (d : surf.Decl) → declare_of S fuel d ≢ Err Memory
 
 abbrev pub ElaborateNeedsNoMemory : Type 0
-ElaborateNeedsNoMemory = (S : Signature) (fuel : ℕ) (d : surf.Decl) → elaborate_of S fuel d ≢ Err (Declaration Memory)
+ElaborateNeedsNoMemory = (S : Signature) (fuel : ℕ) (d : surf.Decl) → elaborate_of S fuel d ≢ Err Memory

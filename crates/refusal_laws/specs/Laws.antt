@@ -2,16 +2,20 @@
 use Rattle.std.specs.Prelude.{◌≡◌, ◌⊎◌, ℕ, Ok, Err, List}
 use Rattle.theory.specs.Signatures.{Signature}
 use Rattle.clause_reports.specs.Stops.{Rejection}
+use Rattle.elab_session.specs.Refusals.{unresolved}
 use Rattle.elab_session.specs.Sessions.{IsReady}
+use Rattle.elab_session.specs.declared.refusal.Refusal as session
 use Rattle.clause_reports.specs.elaboration.Functions.{function_of}
 use Rattle.clause_reports.specs.elaboration.Refusals as refusal
 use Rattle.clause_reports.specs.elaboration.Refusals.{FailingCall, Owner, Part, Refusal}
 use Rattle.function_session.specs.function_lines.Conditions.{IsFunctionOver}
 use Rattle.function_session.specs.function_lines.FunctionMade.{function_made}
-use Rattle.function_session.specs.Elaborating as session
 use Rattle.function_session.specs.Elaborating.{elaborate_of}
-use Rattle.resolve.specs.Functions.{Function, function, resolve_fun}
-use Rattle.surface_syntax.specs.Trees.{Decl}
+use Rattle.function_session.specs.Refusals.{refused_function}
+use Rattle.resolve.specs.Functions.{Function, resolve_fun}
+use Rattle.resolve.specs.declared.stop.ResolveStop.{ResolveStop}
+use Rattle.surface_syntax.specs.Trees.{Clauses, Decl, Fun, Surf}
+use Rattle.surface_syntax.specs.declared.tree.Word.{Word}
 use Rattle.refusal_laws.specs.Causes.{AreFailing, Caused, IsDenied, IsEnd, IsIllTyped, IsMismatch, IsUncovered}
 use Rattle.written_functions.specs.Clauses.{with_own}
 
@@ -29,15 +33,17 @@ MeantIsCaused =
     (S : Signature) (f : Function) (fuel : ℕ) (e : Refusal) → IsFunctionOver (with_own S f) f → (function_of S f fuel).0 ≡ Err e →
     Caused S f e
 
--- Where a declaration is refused for a reason of functions by clauses, the refusal has its cause at the function that is written.
-pub record IsRefusedFunction (S : Signature) (d : Decl) (e : Refusal) : Type 0 where
-  pub given : Function
-  pub resolved : resolve_fun S d ≡ Ok given
-  pub cause : Caused S given e
+-- The declaration of a function is refused since a name in it does not resolve, or for a reason that has its cause at the function that
+-- is written.
+pub data IsRefusedFunction (S : Signature) (fuel : ℕ) (d : Decl) (e : session.Refusal) : Type 0 where
+  of_name : (stop : ResolveStop) → resolve_fun S d ≡ Err stop → e ≡ unresolved stop → IsRefusedFunction S fuel d e
+  of_function : (f : Function) (reason : Refusal) → resolve_fun S d ≡ Ok f → Caused S f reason → e ≡ refused_function fuel reason
+      → IsRefusedFunction S fuel d e
 
 abbrev pub DeclarationIsCaused : Type 0
 DeclarationIsCaused =
-    (S : Signature) (fuel : ℕ) (d : Decl) (e : Refusal) → IsReady S → elaborate_of S fuel d ≡ Err (session.Function e) → IsRefusedFunction S d e
+    (S : Signature) (fuel : ℕ) (x : Word) (ty : Surf) (clauses : Clauses) (e : session.Refusal) → IsReady S
+    → elaborate_of S fuel (Fun x ty clauses) ≡ Err e → IsRefusedFunction S fuel (Fun x ty clauses) e
 
 -- ---- each for itself
 

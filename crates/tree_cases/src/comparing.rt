@@ -5,11 +5,12 @@ ghost use Rattle.core_sig.specs.Kinds.{HasEntryKinds};
 ghost use Rattle.core_sig.specs.Meanings.{entry_of};
 ghost use Rattle.core_text.specs.RawEntries.{entry_shown};
 ghost use Rattle.core_text.specs.ReadLaws.{IsReadEntry};
+ghost use Rattle.elab_session.specs.Sessions.{IsReady};
 
 use crate::generating::generated;
 use core_sig::{Draft, Entry, Signature, settle};
 use core_text::{read_entry, read_head};
-use elab_session::Session;
+use elab_session::enter_entry;
 use std::alloc::Global;
 use std::{fs, io};
 
@@ -69,24 +70,25 @@ enum Ending {
 }
 
 /// Enters the entries from an offset on one by one, and compares those that are generated.
-fn compare_entries(alloc: Global, session: &mut Session, text: &[u8], start: u32) -> Ending
-    requires { start ≤ length text.now }
+fn compare_entries(alloc: Global, sig: &mut Signature, text: &[u8], start: u32) -> Ending
+    requires ready { IsReady sig.old }
+    requires within { start ≤ length text.now }
 {
     let mut from = start;
     let mut entered = 0u64;
     let mut same = 0u64;
     'entries: loop {
-        let (entry, end) = match read_entry(alloc, session.signature(), text, from) {
+        let (entry, end) = match read_entry(alloc, sig, text, from) {
             Ok(Some(read)) => read,
             Ok(None) => return Ending::Whole(same),
             Err(_) => return Ending::Unread(entered),
         };
-        match compared(alloc, session.signature(), &entry) {
+        match compared(alloc, sig, &entry) {
             Found::Given => {}
             Found::Generated => same = same.saturating_add(1),
             Found::Other => return Ending::Wrong(entered),
         }
-        if !is_entered(session, entry) {
+        if !is_entered(alloc, sig, entry) {
             return Ending::Refused(entered);
         }
         entered = entered.saturating_add(1);
@@ -94,12 +96,14 @@ fn compare_entries(alloc: Global, session: &mut Session, text: &[u8], start: u32
     }
 }
 
-/// Adds an entry that is read to the session, and answers whether it is accepted.
-fn is_entered(session: &mut Session, entry: Entry) -> bool
-    requires kinds { HasEntryKinds (length session.old.signature.entries) entry }
-    requires scoped { IsReadEntry session.old.signature (entry_shown (length session.old.signature.entries) (entry_of entry)) }
+/// Adds an entry that is read, and answers whether it is accepted.
+fn is_entered(alloc: Global, sig: &mut Signature, entry: Entry) -> bool
+    requires ready { IsReady sig.old }
+    requires kinds { HasEntryKinds (length sig.old.entries) entry }
+    requires scoped { IsReadEntry sig.old (entry_shown (length sig.old.entries) (entry_of entry)) }
+    ensures { IsReady sig.new }
 {
-    session.enter(entry).is_ok()
+    enter_entry(alloc, sig, 1_000_000, entry).is_ok()
 }
 
 /// Compares the generated entries of a core file.
@@ -107,13 +111,13 @@ fn compare_file(alloc: Global, text: &[u8]) -> Ending {
     let Ok((k, start)) = read_head(text, false) else {
         return Ending::Unread(0);
     };
-    let Ok(mut session) = Session::new(alloc, k, 1_000_000) else {
+    let Ok(mut sig) = Signature::prelude(alloc, k) else {
         return Ending::Unread(0);
     };
     if text.len() < start as usize {
         return Ending::Unread(0);
     }
-    compare_entries(alloc, &mut session, text, start)
+    compare_entries(alloc, &mut sig, text, start)
 }
 
 /// Compares one core file, prints its line, and answers whether there are generated entries in it and all entries are as they

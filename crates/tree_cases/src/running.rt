@@ -1,6 +1,7 @@
 ghost use Rattle.std.specs.Prelude.{◌≡◌, ◌≤◌, length};
 ghost use Rattle.core_terms.specs.Meanings.{tele_of, tree_of};
 ghost use Rattle.core_terms.specs.PatternMeanings.{clause_of, clauses_of};
+ghost use Rattle.elab_session.specs.Sessions as session;
 ghost use Rattle.unification.specs.ScopedStates.{IsReady};
 ghost use Rattle.unifier.specs.Conditions.{most_levels};
 ghost use Rattle.resolve.specs.Functions.{IsFun};
@@ -17,7 +18,7 @@ use clause_splitting::split;
 use clause_walks::own_walk;
 use core_sig::Signature;
 use core_terms::{Clause, Items, Stop, Tele, Term, Units, copy_whole};
-use elab_session::Session;
+use elab_session::declare;
 use resolve::{FunCore, resolve_fun};
 use std::alloc::{AllocError, AllocFailed, Global};
 use std::io;
@@ -214,14 +215,17 @@ fn add_function(
 /// Declares families and definitions, and adds the lines of a function.
 fn take_declaration(
     alloc: Global,
-    session: &mut Session,
+    sig: &mut Signature,
     out: &mut Vec<u8>,
     d: &Decl,
     asked: Asked,
-) -> Result<(), Fault> {
+) -> Result<(), Fault>
+    requires { session.IsReady sig.old }
+    ensures { session.IsReady sig.new }
+{
     match d {
-        Decl::Fun { .. } => add_function(alloc, session.signature(), out, d, asked),
-        _ => match session.declare(d) {
+        Decl::Fun { .. } => add_function(alloc, sig, out, d, asked),
+        _ => match declare(alloc, sig, 100_000_000, d) {
             Ok(_) => Ok(()),
             Err(_) => Err(Fault::Refused),
         },
@@ -245,10 +249,10 @@ fn lines_of(alloc: Global, case: &Case) -> Result<Vec<u8>, Fault> {
         return Err(Fault::Word);
     };
     let declarations = declarations(alloc, case.input.as_slice())?;
-    let mut session = Session::new(alloc, asked.k, 100_000_000)?;
+    let mut sig = Signature::prelude(alloc, asked.k)?;
     let mut out = Vec::new(alloc);
     for d in declarations.as_slice() {
-        take_declaration(alloc, &mut session, &mut out, d, asked)?;
+        take_declaration(alloc, &mut sig, &mut out, d, asked)?;
     }
     Ok(out)
 }

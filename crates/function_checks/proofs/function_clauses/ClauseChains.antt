@@ -19,7 +19,7 @@ use Rattle.clause_reports.specs.elaboration.Refusals.{Elaborating, Owner, answer
 use Rattle.clause_reports.specs.elaboration.Walking.{Session, Opened, Given, after_dots, check_dot, open_over, walk_clause, walk_right}
 use Rattle.function_checks.specs.function_clauses.CodeClauses.{Scrutinee, clause_walked, helper_opened, inside_walked, scrutinee_over, scrutinised, with_dots}
 use Rattle.function_checks.specs.function_refusals.RefusalMeanings.{Elaborates}
-use Rattle.function_checks.specs.declared.function_refusals.refusal.Refusal.{Refusal}
+use Rattle.function_checks.specs.declared.function_refusals.refusal.FunctionRefusal.{FunctionRefusal}
 use Rattle.function_checks.proofs.function_refusals.EndedTrees.{refused}
 use Rattle.function_checks.specs.walk_checks.CodeDots.{dots_checked}
 
@@ -110,7 +110,7 @@ clause-first s k part number next c pats binds right left function is same =
     ∙ ap (λ c. walk_clause s k part number next c left) (sym is)
 
 pub clause-goes-on : {B : Type 0} (g : B → Given) (s : Session) (k : ℕ) (part : Opened) (number next : ℕ) (c : Clause) (pats : Pats) (binds : ℕ)
-    (right : Right) (left more end : ℕ) (function : List ℕ) (w : Walk) (result : Result B Refusal) → c ≡ Is pats binds right
+    (right : Right) (left more end : ℕ) (function : List ℕ) (w : Walk) (result : Result B FunctionRefusal) → c ≡ Is pats binds right
     → function ≡ part_named s.name k → gave w more ≡ clause_walked s.signature function part number c left
     → Elaborates g result end (walk_right s k number next (owner_of function number) w right more)
     → Elaborates g result end (walk_clause s k part number next c left)
@@ -128,7 +128,7 @@ clause-ends s k part number next c pats binds right left more function e is same
     ∙ clause-first s k part number next c pats binds right left function is same
 
 pub with-goes-on : {B : Type 0} (g : B → Given) (s : Session) (k number next : ℕ) (owner : Owner) (w : Walk) (written : Term) (inner : Clauses)
-    (left more end : ℕ) (x : Scrutinee) (result : Result B Refusal) → gave x more ≡ scrutinised s next owner w written left
+    (left more end : ℕ) (x : Scrutinee) (result : Result B FunctionRefusal) → gave x more ≡ scrutinised s next owner w written left
     → Elaborates g result end (inside_walked s k number next w x inner more)
     → Elaborates g result end (walk_right s k number next owner w (clause.With written inner) left)
 with-goes-on g s k number next owner w written inner left more end x result h rest =

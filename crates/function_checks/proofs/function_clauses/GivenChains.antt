@@ -10,7 +10,7 @@ use Rattle.clause_reports.specs.elaboration.Refusals.{Elaborating, Owner, answer
 use Rattle.clause_reports.specs.elaboration.Walking.{Given, Walked, joined}
 use Rattle.function_checks.proofs.function_clauses.OwnParts.{part-walked}
 use Rattle.function_checks.specs.function_clauses.CodeClauses.{Scrutinee, with_dots, with_scrutinee}
-use Rattle.function_checks.specs.declared.function_refusals.refusal.Refusal.{Refusal}
+use Rattle.function_checks.specs.declared.function_refusals.refusal.FunctionRefusal.{FunctionRefusal}
 use Rattle.function_checks.specs.function_walks.Conditions.{AreWalked, IsPartFor}
 use Rattle.function_checks.specs.walk_checks.CodeDots.{dots_checked}
 

@@ -14,10 +14,10 @@ use Rattle.core_terms.specs.declared.verdict.Verdict.TheVariants.{Yes, No}
 use Rattle.kernel_reduce.specs.Reduction.{answered}
 use Rattle.clause_reports.specs.elaboration.Refusals as pure
 use Rattle.function_checks.specs.function_refusals.RefusalMeanings.{Elaborates, Tells}
-use Rattle.function_checks.specs.declared.function_refusals.refusal.Refusal.{Refusal}
+use Rattle.function_checks.specs.declared.function_refusals.refusal.FunctionRefusal.{FunctionRefusal}
 
 -- a call answers, and the call after it stands for the one that is meant then
-pub goes-on : {A B C : Type 0} (g : B → C) (first : pure.Elaborating A) (a : A) (go : A → ℕ → pure.Elaborating C) (left end : ℕ) (result : Result B Refusal)
+pub goes-on : {A B C : Type 0} (g : B → C) (first : pure.Elaborating A) (a : A) (go : A → ℕ → pure.Elaborating C) (left end : ℕ) (result : Result B FunctionRefusal)
     → ◌≡◌ {A = pure.Elaborating A} (Ok a, left) first → Elaborates g result end (go a left) → Elaborates g result end (and_next first go)
 goes-on g first a go left end result h k = transport (Elaborates g result end) (ap (λ r. and_next r go) h) k
 
@@ -36,7 +36,7 @@ pub halting-err : {A : Type 0} (e : Stop) (left : ℕ) (spent : Spent A) → ◌
 halting-err e left spent h = ap (λ r. pure.halting r) h
 
 -- a call that spends nothing
-pub tells-answers : {A B : Type 0} (g : A → B) (r : Result A Refusal) (meant : Result B pure.Refusal) (left : ℕ) → Tells g r meant
+pub tells-answers : {A B : Type 0} (g : A → B) (r : Result A FunctionRefusal) (meant : Result B pure.Refusal) (left : ℕ) → Tells g r meant
     → Elaborates g r left (pure.answers meant left)
 tells-answers g (Ok a) meant left h = ap (λ m. pure.answers m left) h
 tells-answers g (Err e) meant left h = λ other. ap (λ m. pure.answers m left) (h other)

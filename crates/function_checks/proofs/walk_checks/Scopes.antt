@@ -9,7 +9,7 @@ use Rattle.kernel_reduce.specs.WellScoped.{AreWellScoped}
 use Rattle.with_abstraction.specs.Abstractions.{Abstracted}
 use Rattle.with_abstraction.specs.Laws.{IsScopedAbstraction}
 use Rattle.with_abstraction.specs.Meanings.{abstracted_of}
-use Rattle.function_checks.specs.declared.function_refusals.refusal.Refusal.{Refusal}
+use Rattle.function_checks.specs.declared.function_refusals.refusal.FunctionRefusal.{FunctionRefusal}
 use Rattle.function_checks.specs.declared.walk_checks.parts.Opening.{Opening}
 
 pub products-are-scoped : (S : Signature) (n m : ℕ) (tele : Telescope) (b : Term) → IsScopedTelescope S n tele → m ≤ n + length tele → IsScoped S m b
@@ -29,7 +29,7 @@ closed-product S n a signature h =
     }
 
 -- a helper whose abstraction is scoped, once it is opened
-pub opened-scoped : (S : Signature) (n : ℕ) (a : Abstracted) (r : Result Opening Refusal)
+pub opened-scoped : (S : Signature) (n : ℕ) (a : Abstracted) (r : Result Opening FunctionRefusal)
     → IfOk r (λ (o : Opening). abstracted_of o.abstraction ≡ a) → IsScopedAbstraction S n a
     → IfOk r (λ (o : Opening). IsScopedAbstraction S n (abstracted_of o.abstraction))
 opened-scoped S n a (Ok o) e h = transport (IsScopedAbstraction S n) (sym e) h

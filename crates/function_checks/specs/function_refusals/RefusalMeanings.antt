@@ -9,8 +9,8 @@ use Rattle.function_checks.specs.declared.function_refusals.refusal.Owner.{Owner
 use Rattle.function_checks.specs.declared.function_refusals.refusal.WrittenPart.{WrittenPart}
 use Rattle.function_checks.specs.declared.function_refusals.refusal.WrittenPart.TheVariants as part
 use Rattle.function_checks.specs.declared.function_refusals.refusal.FailingCall.{FailingCall}
-use Rattle.function_checks.specs.declared.function_refusals.refusal.Refusal.{Refusal}
-use Rattle.function_checks.specs.declared.function_refusals.refusal.Refusal.TheVariants.{Stop, IllTyped, WrongConstructor, Stuck, Uncovered, NotAbsurd, Impossible, DotMismatch, SelfInType, NotSmaller, Rejected}
+use Rattle.function_checks.specs.declared.function_refusals.refusal.FunctionRefusal.{FunctionRefusal}
+use Rattle.function_checks.specs.declared.function_refusals.refusal.FunctionRefusal.TheVariants.{Stop, IllTyped, WrongConstructor, Stuck, Uncovered, NotAbsurd, Impossible, DotMismatch, SelfInType, NotSmaller, Rejected}
 
 abbrev pub owner_meant : Owner → pure.Owner
 owner_meant o = record { function = o.function; clause = o.clause }
@@ -29,7 +29,7 @@ abbrev pub rejection_of : (entry line place context reason : List ℕ) → Rejec
 rejection_of entry line place context reason =
     record { entry = entry; line = line; place = place; context = context; reason = reason }
 
-abbrev pub refusal_of : Refusal → pure.Refusal
+abbrev pub refusal_of : FunctionRefusal → pure.Refusal
 refusal_of (Stop e) = pure.Halts e
 refusal_of (IllTyped part place ctx reason) = pure.IllTyped (part_of part) place ctx reason
 refusal_of (WrongConstructor owner ctx ty) = pure.WrongConstructor (owner_meant owner) ctx ty
@@ -43,13 +43,13 @@ refusal_of (NotSmaller rows) = pure.NotSmaller (map failing_of rows)
 refusal_of (Rejected entry line place ctx reason) = pure.Rejected (rejection_of entry line place ctx reason)
 
 -- the refusals that nothing rules out: only out of memory
-abbrev pub IsUnforeseen : Refusal → Type 0
+abbrev pub IsUnforeseen : FunctionRefusal → Type 0
 IsUnforeseen e = e ≡ Stop Memory
 
 -- the answer with the units that are `left` stands for `meant` by way of `f`, unless memory ran out
-abbrev pub Elaborates : {A B : Type 0} → (A → B) → Result A Refusal → ℕ → Elaborating B → Type 0
+abbrev pub Elaborates : {A B : Type 0} → (A → B) → Result A FunctionRefusal → ℕ → Elaborating B → Type 0
 Elaborates f result left meant = SpendsFor IsUnforeseen refusal_of f result left meant
 
 -- the answer stands for `meant` by way of `f`, unless memory ran out; no units are spent
-abbrev pub Tells : {A B : Type 0} → (A → B) → Result A Refusal → Result B pure.Refusal → Type 0
+abbrev pub Tells : {A B : Type 0} → (A → B) → Result A FunctionRefusal → Result B pure.Refusal → Type 0
 Tells f result meant = StandsFor IsUnforeseen refusal_of f result meant

@@ -14,7 +14,7 @@ ghost use Rattle.function_checks.specs.walk_checks.CheckMeanings.{opening_of, si
 use crate::function_clauses::helpers::{helper_call, opened};
 use crate::function_clauses::parts::Scrutinee;
 use crate::function_clauses::sides::bound;
-use crate::function_refusals::Refusal;
+use crate::function_refusals::FunctionRefusal;
 use crate::function_walks::Session;
 use crate::walk_checks::{Opening, Site, open_over};
 use core_terms::{Stop, Term, Walk};
@@ -50,7 +50,7 @@ fn helper_opened(
     w: &Walk,
     t: Term,
     kernel: &mut Kernel<'_>,
-) -> Result<Scrutinee, Refusal>
+) -> Result<Scrutinee, FunctionRefusal>
     requires kernel { kernel.old.signature ≡ s.sig.now }
     requires walk { IsWalkOver s.sig.now (walk_of w.now) }
     requires scrutinee { IsScoped s.sig.now (length (walk_of w.now).ctx) (tree_of t) }
@@ -74,7 +74,7 @@ pub(crate) fn scrutinised(
     w: &Walk,
     written: &Term,
     kernel: &mut Kernel<'_>,
-) -> Result<Scrutinee, Refusal>
+) -> Result<Scrutinee, FunctionRefusal>
     requires kernel { kernel.old.signature ≡ s.sig.now }
     requires walk { IsWalkOver s.sig.now (walk_of w.now) }
     requires written { HasEntries s.sig.now (tree_of written.now) }

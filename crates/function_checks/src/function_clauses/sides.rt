@@ -14,7 +14,7 @@ ghost use Rattle.theory.specs.SignatureScopes.{HasEntries, IsScoped};
 ghost use Rattle.function_checks.specs.walk_checks.CheckMeanings.{site_of};
 
 use crate::function_clauses::giving::side_given;
-use crate::function_refusals::Refusal;
+use crate::function_refusals::FunctionRefusal;
 use crate::function_walks::{Given, Session};
 use crate::walk_checks::{Asked, Site, checked_as};
 use core_sig::Signature;
@@ -48,7 +48,7 @@ fn side_checked<'a>(
     side: &Term,
     body: &Term,
     kernel: &mut Kernel<'_>,
-) -> Result<Given<'a>, Refusal>
+) -> Result<Given<'a>, FunctionRefusal>
     requires kernel { kernel.old.signature ≡ sig.now }
     requires walk { IsWalkOver sig.now (walk_of w) }
     requires body { IsScoped sig.now (length (walk_of w).ctx) (tree_of body.now) }
@@ -72,7 +72,7 @@ pub(crate) fn side_walked<'a>(
     w: Walk,
     side: &Term,
     kernel: &mut Kernel<'_>,
-) -> Result<Given<'a>, Refusal>
+) -> Result<Given<'a>, FunctionRefusal>
     requires kernel { kernel.old.signature ≡ s.sig.now }
     requires walk { IsWalkOver s.sig.now (walk_of w) }
     requires side { HasEntries s.sig.now (tree_of side.now) }

@@ -14,7 +14,7 @@ ghost use Rattle.resolve.specs.Scoping.{IsClause};
 ghost use Rattle.unifier.specs.Conditions.{most_levels};
 ghost use Rattle.function_checks.specs.walk_checks.CheckMeanings.{site_of};
 
-use crate::function_refusals::{Refusal, ended};
+use crate::function_refusals::{FunctionRefusal, ended};
 use crate::function_walks::Opened;
 use crate::walk_checks::{Site, check_dots};
 use clause_walks::own_walk_with;
@@ -34,7 +34,7 @@ fn walked(
     part: &Opened,
     c: &Clause,
     kernel: &mut Kernel<'_>,
-) -> Result<Walk, Refusal>
+) -> Result<Walk, FunctionRefusal>
     requires kernel { kernel.old.signature ≡ sig.now }
     requires part { IsPart sig.now (opened_of part.now) }
     requires clause { IsClause sig.now (length (opened_of part.now).terms) (clause_of c.now) }
@@ -79,7 +79,7 @@ fn with_dots(
     site: Site,
     w: Walk,
     kernel: &mut Kernel<'_>,
-) -> Result<Walk, Refusal>
+) -> Result<Walk, FunctionRefusal>
     requires kernel { kernel.old.signature ≡ sig.now }
     requires given { IsWalkOver sig.now (walk_of w) }
     ensures answer { Elaborates walk_of result kernel.new.left (code.with_dots sig.now (site_of site.entry) (walk_of w) kernel.old.left) }
@@ -100,7 +100,7 @@ pub(crate) fn clause_walked(
     part: &Opened,
     c: &Clause,
     kernel: &mut Kernel<'_>,
-) -> Result<Walk, Refusal>
+) -> Result<Walk, FunctionRefusal>
     requires kernel { kernel.old.signature ≡ sig.now }
     requires part { IsPart sig.now (opened_of part.now) }
     requires clause { IsClause sig.now (length (opened_of part.now).terms) (clause_of c.now) }

@@ -20,7 +20,7 @@ use crate::function_clauses::parts::Scrutinee;
 use crate::function_clauses::scrutinees::scrutinised;
 use crate::function_clauses::sides::side_walked;
 use crate::function_clauses::single::clause_walked;
-use crate::function_refusals::Refusal;
+use crate::function_refusals::FunctionRefusal;
 use crate::function_walks::{Given, Opened, Session};
 use crate::walk_checks::Site;
 use clause_equations::part_name;
@@ -49,7 +49,7 @@ fn walk_clause<'a>(
     next: u32,
     c: &'a Clause,
     kernel: &mut Kernel<'_>,
-) -> Result<Given<'a>, Refusal>
+) -> Result<Given<'a>, FunctionRefusal>
     requires kernel { kernel.old.signature ≡ s.sig.now }
     requires part { IsPart s.sig.now (opened_of part.now) }
     requires clause { IsClause s.sig.now (length (opened_of part.now).terms) (clause_of c.now) }
@@ -79,7 +79,7 @@ fn walk_right<'a>(
     w: Walk,
     right: &'a Right,
     kernel: &mut Kernel<'_>,
-) -> Result<Given<'a>, Refusal>
+) -> Result<Given<'a>, FunctionRefusal>
     requires kernel { kernel.old.signature ≡ s.sig.now }
     requires walk { IsWalkOver s.sig.now (walk_of w) }
     requires right { IsRightSide s.sig.now (length (walk_of w).terms) (right_of right.now) }
@@ -110,7 +110,7 @@ fn with_walked<'a>(
     written: &Term,
     inner: &'a Items<Clause>,
     kernel: &mut Kernel<'_>,
-) -> Result<Given<'a>, Refusal>
+) -> Result<Given<'a>, FunctionRefusal>
     requires kernel { kernel.old.signature ≡ s.sig.now }
     requires walk { IsWalkOver s.sig.now (walk_of w) }
     requires written { HasEntries s.sig.now (tree_of written.now) }
@@ -137,7 +137,7 @@ fn inside_walked<'a>(
     x: Scrutinee,
     inner: &'a Items<Clause>,
     kernel: &mut Kernel<'_>,
-) -> Result<Given<'a>, Refusal>
+) -> Result<Given<'a>, FunctionRefusal>
     requires kernel { kernel.old.signature ≡ s.sig.now }
     requires given { IsPartFor s.sig.now (opened_of x.part) (clauses_of inner.now) }
     ensures answer { Elaborates given_of result kernel.new.left (code.inside_walked (session_of s.entry) k number helper (walk_of w) (scrutinee_of x) (clauses_of inner.now) kernel.old.left) }
@@ -176,7 +176,7 @@ pub fn walk_clauses<'a>(
     next: u32,
     clauses: &'a [Clause],
     kernel: &mut Kernel<'_>,
-) -> Result<Given<'a>, Refusal>
+) -> Result<Given<'a>, FunctionRefusal>
     requires kernel { kernel.old.signature ≡ s.sig.now }
     requires given { IsPartFor s.sig.now (opened_of part.now) (clauses_of clauses.now) }
     ensures answer { Elaborates given_of result kernel.new.left (spec.walk_clauses (session_of s.entry) k (opened_of part.now) number next (clauses_of clauses.now) kernel.old.left) }
@@ -206,7 +206,7 @@ fn others_walked<'a>(
     given: Given<'a>,
     rest: &'a [Clause],
     kernel: &mut Kernel<'_>,
-) -> Result<Given<'a>, Refusal>
+) -> Result<Given<'a>, FunctionRefusal>
     requires kernel { kernel.old.signature ≡ s.sig.now }
     requires part { IsPartFor s.sig.now (opened_of part.now) (clauses_of rest.now) }
     requires helpers { AreWalked s.sig.now (map walked_of given.helpers) }

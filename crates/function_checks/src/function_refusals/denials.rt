@@ -5,19 +5,24 @@ ghost use Rattle.core_terms.specs.Verdicts as pure;
 ghost use Rattle.clause_reports.specs.elaboration.Refusals as spec;
 ghost use Rattle.function_checks.specs.function_refusals.RefusalMeanings.{Elaborates, IsUnforeseen, part_of, refusal_of};
 
-use crate::function_refusals::refusal::{Refusal, WrittenPart, or_memory};
+use crate::function_refusals::refusal::{FunctionRefusal, WrittenPart, or_memory};
 use core_sig::Signature;
 use core_terms::{Denial, Items, Reason, Stop, Term, Verdict};
 use core_text::{context_text, reason_text};
 use std::alloc::Global;
 
 /// The refusal of a part that the checker rejects, or a stop while its evidence is written.
-fn shown(alloc: Global, sig: &Signature, part: WrittenPart, denial: Denial) -> Result<Refusal, Stop>
+fn shown(
+    alloc: Global,
+    sig: &Signature,
+    part: WrittenPart,
+    denial: Denial,
+) -> Result<FunctionRefusal, Stop>
     ensures { Gives refusal_of result (Ok (spec.ill_typed sig.now (part_of part) (denial_of denial))) }
 {
     let ctx = context_text(alloc, sig, denial.ctx.as_slice())?;
     let reason = reason_text(alloc, sig, &denial.reason)?;
-    Ok(Refusal::IllTyped {
+    Ok(FunctionRefusal::IllTyped {
         part,
         place: denial.place,
         ctx,
@@ -26,7 +31,12 @@ fn shown(alloc: Global, sig: &Signature, part: WrittenPart, denial: Denial) -> R
 }
 
 /// The refusal of a part that the checker rejects.
-pub fn ill_typed(alloc: Global, sig: &Signature, part: WrittenPart, denial: Denial) -> Refusal
+pub fn ill_typed(
+    alloc: Global,
+    sig: &Signature,
+    part: WrittenPart,
+    denial: Denial,
+) -> FunctionRefusal
     ensures { Unless (IsUnforeseen result) (refusal_of result ≡ spec.ill_typed sig.now (part_of part) (denial_of denial)) }
 {
     or_memory(shown(alloc, sig, part, denial))
@@ -38,13 +48,13 @@ pub fn granted(
     sig: &Signature,
     part: WrittenPart,
     answer: Result<Verdict, Stop>,
-) -> Result<Term, Refusal>
+) -> Result<Term, FunctionRefusal>
     ensures { (left : ℕ) (meant : Spent pure.Verdict) → Runs verdict_of answer left meant → Elaborates tree_of result left (spec.granted sig.now (part_of part) meant) }
 {
     match answer {
         Ok(Verdict::Yes(ty)) => Ok(ty),
         Ok(Verdict::No(denial)) => Err(ill_typed(alloc, sig, part, denial)),
-        Err(e) => Err(Refusal::Stop(e)),
+        Err(e) => Err(FunctionRefusal::Stop(e)),
     }
 }
 
@@ -55,7 +65,7 @@ pub fn level_too_high(
     part: WrittenPart,
     level: u8,
     greatest: u8,
-) -> Refusal
+) -> FunctionRefusal
     ensures { Unless (IsUnforeseen result) (refusal_of result ≡ spec.level_too_high sig.now (part_of part) level greatest) }
 {
     let denial = Denial {

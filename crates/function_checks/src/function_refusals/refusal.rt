@@ -3,7 +3,7 @@ ghost use Rattle.core_terms.specs.Answers.{Gives, Unless};
 ghost use Rattle.core_terms.specs.declared.stop.Stop.TheVariants.{Memory};
 ghost use Rattle.clause_reports.specs.elaboration.Refusals as spec;
 ghost use Rattle.function_checks.specs.function_refusals.RefusalMeanings.{IsUnforeseen, owner_meant, refusal_of};
-ghost use Rattle.function_checks.specs.declared.function_refusals.refusal.Refusal.TheVariants as refused;
+ghost use Rattle.function_checks.specs.declared.function_refusals.refusal.FunctionRefusal.TheVariants as refused;
 
 use core_terms::{Items, Name, Place, Stop, number_of};
 use std::alloc::{AllocError, AllocFailed, Global};
@@ -47,7 +47,7 @@ pub struct FailingCall {
 /// mentions the function. `NotSmaller`: for each position that admits recursion, a call that is not smaller there.
 /// `Rejected`: the checker rejects an entry.
 #[derive(Debug, Drop)]
-pub enum Refusal {
+pub enum FunctionRefusal {
     Stop(Stop),
     IllTyped {
         part: WrittenPart,
@@ -99,33 +99,33 @@ pub enum Refusal {
     },
 }
 
-impl From<Stop> for Refusal {
+impl From<Stop> for FunctionRefusal {
     ghost use Rattle.std.specs.Prelude.{◌≡◌};
 
     ghost from_gives = { λ e r. r ≡ refused.Stop e };
 
-    fn from(stop: Stop) -> Refusal {
-        Refusal::Stop(stop)
+    fn from(stop: Stop) -> FunctionRefusal {
+        FunctionRefusal::Stop(stop)
     }
 }
 
-impl From<AllocError> for Refusal {
+impl From<AllocError> for FunctionRefusal {
     ghost use Rattle.std.specs.Prelude.{◌≡◌};
 
     ghost from_gives = { λ _ r. r ≡ refused.Stop Memory };
 
-    fn from(_error: AllocError) -> Refusal {
-        Refusal::Stop(Stop::Memory)
+    fn from(_error: AllocError) -> FunctionRefusal {
+        FunctionRefusal::Stop(Stop::Memory)
     }
 }
 
-impl<T: Drop> From<AllocFailed<T>> for Refusal {
+impl<T: Drop> From<AllocFailed<T>> for FunctionRefusal {
     ghost use Rattle.std.specs.Prelude.{◌≡◌};
 
     ghost from_gives = { λ _ r. r ≡ refused.Stop Memory };
 
-    fn from(_failed: AllocFailed<T>) -> Refusal {
-        Refusal::Stop(Stop::Memory)
+    fn from(_failed: AllocFailed<T>) -> FunctionRefusal {
+        FunctionRefusal::Stop(Stop::Memory)
     }
 }
 
@@ -141,11 +141,11 @@ pub fn owner_of(alloc: Global, function: &[u8], clause: u32) -> Result<Owner, St
 }
 
 /// The refusal itself, or Memory where there is none for it.
-pub fn or_memory(made: Result<Refusal, Stop>) -> Refusal
+pub fn or_memory(made: Result<FunctionRefusal, Stop>) -> FunctionRefusal
     ensures { (meant : spec.Refusal) → Gives refusal_of made (Ok meant) → Unless (IsUnforeseen result) (refusal_of result ≡ meant) }
 {
     match made {
         Ok(refusal) => refusal,
-        Err(_) => Refusal::Stop(Stop::Memory),
+        Err(_) => FunctionRefusal::Stop(Stop::Memory),
     }
 }

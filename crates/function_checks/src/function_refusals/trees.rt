@@ -8,7 +8,7 @@ ghost use Rattle.core_text.specs.SymbolNames.{constructor_name_at};
 ghost use Rattle.clause_reports.specs.elaboration.Refusals as spec;
 ghost use Rattle.function_checks.specs.function_refusals.RefusalMeanings.{IsUnforeseen, refusal_of};
 
-use crate::function_refusals::refusal::{Refusal, or_memory, owner_of};
+use crate::function_refusals::refusal::{FunctionRefusal, or_memory, owner_of};
 use clause_walks::TreeStop;
 use core_sig::Signature;
 use core_terms::{Items, Name, Pat, Stop, Term};
@@ -49,10 +49,10 @@ fn stuck(
     left: &Term,
     right: &Term,
     why: Why,
-) -> Result<Refusal, Stop>
+) -> Result<FunctionRefusal, Stop>
     ensures { Gives refusal_of result (Ok (spec.of_tree sig.now function.now (tree.Stuck clause (tele_of ctx.now) (tree_of left.now) (tree_of right.now) why))) }
 {
-    Ok(Refusal::Stuck {
+    Ok(FunctionRefusal::Stuck {
         owner: owner_of(alloc, function, clause)?,
         ctx: context_text(alloc, sig, ctx)?,
         left: print_term(alloc, sig, left)?,
@@ -67,10 +67,10 @@ fn uncovered(
     function: &[u8],
     ctx: &[Term],
     terms: &[Term],
-) -> Result<Refusal, Stop>
+) -> Result<FunctionRefusal, Stop>
     ensures { Gives refusal_of result (Ok (spec.of_tree sig.now function.now (tree.Uncovered (tele_of ctx.now) (tele_of terms.now)))) }
 {
-    Ok(Refusal::Uncovered {
+    Ok(FunctionRefusal::Uncovered {
         function: Name::from_vec(function.to_vec(alloc)?),
         ctx: context_text(alloc, sig, ctx)?,
         vector: spaced_text(alloc, sig, terms)?,
@@ -84,10 +84,10 @@ fn not_absurd(
     clause: u32,
     family: u32,
     con: u32,
-) -> Result<Refusal, Stop>
+) -> Result<FunctionRefusal, Stop>
     ensures { Gives refusal_of result (Ok (spec.of_tree sig.now function.now (tree.NotAbsurd clause family con))) }
 {
-    Ok(Refusal::NotAbsurd {
+    Ok(FunctionRefusal::NotAbsurd {
         owner: owner_of(alloc, function, clause)?,
         con: constructor_text(alloc, sig, family, con)?,
     })
@@ -101,10 +101,10 @@ fn impossible(
     ctx: &[Term],
     left: &Term,
     right: &Term,
-) -> Result<Refusal, Stop>
+) -> Result<FunctionRefusal, Stop>
     ensures { Gives refusal_of result (Ok (spec.of_tree sig.now function.now (tree.Impossible clause (tele_of ctx.now) (tree_of left.now) (tree_of right.now)))) }
 {
-    Ok(Refusal::Impossible {
+    Ok(FunctionRefusal::Impossible {
         owner: owner_of(alloc, function, clause)?,
         ctx: context_text(alloc, sig, ctx)?,
         left: print_term(alloc, sig, left)?,
@@ -119,10 +119,10 @@ fn wrong_constructor(
     clause: u32,
     ctx: &[Term],
     ty: &Term,
-) -> Result<Refusal, Stop>
+) -> Result<FunctionRefusal, Stop>
     ensures { Gives refusal_of result (Ok (spec.of_tree sig.now function.now (tree.WrongConstructor clause (tele_of ctx.now) (tree_of ty.now)))) }
 {
-    Ok(Refusal::WrongConstructor {
+    Ok(FunctionRefusal::WrongConstructor {
         owner: owner_of(alloc, function, clause)?,
         ctx: context_text(alloc, sig, ctx)?,
         ty: print_term(alloc, sig, ty)?,
@@ -137,10 +137,10 @@ fn forced(
     ctx: &[Term],
     pat: &Pat,
     term: &Term,
-) -> Result<Refusal, Stop>
+) -> Result<FunctionRefusal, Stop>
     ensures { Gives refusal_of result (Ok (spec.of_tree sig.now function.now (tree.Forced clause (tele_of ctx.now) (pat_of pat.now) (tree_of term.now)))) }
 {
-    Ok(Refusal::DotMismatch {
+    Ok(FunctionRefusal::DotMismatch {
         owner: owner_of(alloc, function, clause)?,
         ctx: context_text(alloc, sig, ctx)?,
         written: pattern_text(alloc, sig, pat)?,
@@ -149,11 +149,16 @@ fn forced(
 }
 
 /// The refusal where a walk or a tree of a function or helper ends, or a stop while its evidence is written.
-fn shown(alloc: Global, sig: &Signature, function: &[u8], stop: &TreeStop) -> Result<Refusal, Stop>
+fn shown(
+    alloc: Global,
+    sig: &Signature,
+    function: &[u8],
+    stop: &TreeStop,
+) -> Result<FunctionRefusal, Stop>
     ensures { Gives refusal_of result (Ok (spec.of_tree sig.now function.now (trees.stop_of stop.now))) }
 {
     match stop {
-        TreeStop::Stop(e) => Ok(Refusal::Stop(*e)),
+        TreeStop::Stop(e) => Ok(FunctionRefusal::Stop(*e)),
         TreeStop::Stuck {
             clause,
             ctx,
@@ -197,12 +202,12 @@ fn shown(alloc: Global, sig: &Signature, function: &[u8], stop: &TreeStop) -> Re
 }
 
 /// The refusal where a walk or a tree of a function or helper ends.
-pub fn ended(alloc: Global, sig: &Signature, function: &[u8], stop: &TreeStop) -> Refusal
+pub fn ended(alloc: Global, sig: &Signature, function: &[u8], stop: &TreeStop) -> FunctionRefusal
     ensures answer { Unless (IsUnforeseen result) (refusal_of result ≡ spec.of_tree sig.now function.now (trees.stop_of stop.now)) }
     ensures memory { trees.IsUnforeseen stop.now → IsUnforeseen result }
 {
     match stop {
-        TreeStop::Stop(e) => Refusal::Stop(*e),
+        TreeStop::Stop(e) => FunctionRefusal::Stop(*e),
         other => or_memory(shown(alloc, sig, function, other)),
     }
 }

@@ -4,7 +4,7 @@ ghost use Rattle.core_terms.specs.Meanings.{tree_of, tele_of};
 ghost use Rattle.clause_reports.specs.elaboration.Functions as spec;
 ghost use Rattle.function_checks.specs.function_refusals.RefusalMeanings.{Tells};
 
-use crate::function_refusals::{Refusal, WrittenPart, level_too_high};
+use crate::function_refusals::{FunctionRefusal, WrittenPart, level_too_high};
 use core_sig::Signature;
 use core_terms::{Items, Stop, Tele, Term, copy_whole};
 use std::alloc::Global;
@@ -50,7 +50,7 @@ pub fn after_domains(count: u32, ty: &Term) -> &Term
 }
 
 /// The level of a function whose type has this sort, where it is not too high.
-pub fn function_level(alloc: Global, sig: &Signature, sort: &Term) -> Result<u8, Refusal>
+pub fn function_level(alloc: Global, sig: &Signature, sort: &Term) -> Result<u8, FunctionRefusal>
     ensures { Tells (λ n. n) result (spec.function_level sig.now (tree_of sort.now)) }
 {
     match sort {

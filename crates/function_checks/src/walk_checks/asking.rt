@@ -10,7 +10,7 @@ ghost use Rattle.kernel_reduce.specs.Reduction.{nesting};
 ghost use Rattle.kernel_reduce.specs.WellScoped.{AreWellScoped};
 ghost use Rattle.theory.specs.SignatureScopes.{IsScoped};
 
-use crate::function_refusals::{Refusal, WrittenPart, ill_typed, owner_of};
+use crate::function_refusals::{FunctionRefusal, WrittenPart, ill_typed, owner_of};
 use crate::walk_checks::parts::{Asked, Site};
 use core_sig::Signature;
 use core_terms::{Denial, Items, Stop, Tele, Term, Verdict};
@@ -37,12 +37,12 @@ pub(crate) fn denied(
     asked: Asked,
     site: Site,
     denial: Denial,
-) -> Refusal
+) -> FunctionRefusal
     ensures { Unless (IsUnforeseen result) (refusal_of result ≡ spec.ill_typed sig.now (asked_of asked (site_of site.entry)) (denial_of denial)) }
 {
     match part_at(alloc, asked, site) {
         Ok(part) => ill_typed(alloc, sig, part, denial),
-        Err(_) => Refusal::Stop(Stop::Memory),
+        Err(_) => FunctionRefusal::Stop(Stop::Memory),
     }
 }
 
@@ -55,7 +55,7 @@ pub fn inferred(
     ctx: &Tele,
     t: &Term,
     kernel: &mut Kernel<'_>,
-) -> Result<Term, Refusal>
+) -> Result<Term, FunctionRefusal>
     requires kernel { kernel.old.signature ≡ sig.now }
     requires given { AreWellScoped sig.now (tele_of ctx.now) (tree_of t.now ∷ []) }
     ensures answer { Elaborates tree_of result kernel.new.left (spec.granted sig.now (asked_of asked (site_of site.entry)) (infer_of sig.now nesting (reverse (tele_of ctx.now)) (tree_of t.now) kernel.old.left)) }
@@ -67,7 +67,7 @@ pub fn inferred(
     match kernel.infer(ctx, t) {
         Ok(Verdict::Yes(ty)) => Ok(ty),
         Ok(Verdict::No(denial)) => Err(denied(alloc, sig, asked, site, denial)),
-        Err(e) => Err(Refusal::Stop(e)),
+        Err(e) => Err(FunctionRefusal::Stop(e)),
     }
 }
 
@@ -81,7 +81,7 @@ pub fn checked_as(
     t: &Term,
     wanted: &Term,
     kernel: &mut Kernel<'_>,
-) -> Result<Term, Refusal>
+) -> Result<Term, FunctionRefusal>
     requires kernel { kernel.old.signature ≡ sig.now }
     requires given { AreWellScoped sig.now (tele_of ctx.now) (tree_of t.now ∷ tree_of wanted.now ∷ []) }
     ensures answer { Elaborates tree_of result kernel.new.left (spec.granted sig.now (asked_of asked (site_of site.entry)) (check_of sig.now nesting (reverse (tele_of ctx.now)) (tree_of t.now) (tree_of wanted.now) kernel.old.left)) }
@@ -92,7 +92,7 @@ pub fn checked_as(
     match kernel.check(ctx, t, wanted) {
         Ok(Verdict::Yes(ty)) => Ok(ty),
         Ok(Verdict::No(denial)) => Err(denied(alloc, sig, asked, site, denial)),
-        Err(e) => Err(Refusal::Stop(e)),
+        Err(e) => Err(FunctionRefusal::Stop(e)),
     }
 }
 
@@ -104,7 +104,7 @@ pub(crate) fn sort_of(
     site: Site,
     ty: &Term,
     kernel: &mut Kernel<'_>,
-) -> Result<Term, Refusal>
+) -> Result<Term, FunctionRefusal>
     requires kernel { kernel.old.signature ≡ sig.now }
     requires given { AreWellScoped sig.now [] (tree_of ty.now ∷ []) }
     ensures answer { Elaborates tree_of result kernel.new.left (spec.granted sig.now (asked_of asked (site_of site.entry)) (infer_sort_of sig.now nesting [] (tree_of ty.now) kernel.old.left)) }
@@ -116,6 +116,6 @@ pub(crate) fn sort_of(
     match kernel.infer_sort(&ctx, ty) {
         Ok(Verdict::Yes(sort)) => Ok(sort),
         Ok(Verdict::No(denial)) => Err(denied(alloc, sig, asked, site, denial)),
-        Err(e) => Err(Refusal::Stop(e)),
+        Err(e) => Err(FunctionRefusal::Stop(e)),
     }
 }

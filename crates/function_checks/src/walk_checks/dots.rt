@@ -10,7 +10,7 @@ ghost use Rattle.clause_reports.specs.elaboration.Refusals as refusals;
 ghost use Rattle.core_text.specs.TermText.{term_text};
 ghost use Rattle.core_text.specs.ContextText.{context_text};
 
-use crate::function_refusals::{Refusal, or_memory, owner_of};
+use crate::function_refusals::{FunctionRefusal, or_memory, owner_of};
 use crate::walk_checks::asking::{checked_as, inferred};
 use crate::walk_checks::parts::{Asked, Site};
 use core_sig::Signature;
@@ -27,10 +27,10 @@ fn shown(
     ctx: &[Term],
     written: &Term,
     forced: &Term,
-) -> Result<Refusal, Stop>
+) -> Result<FunctionRefusal, Stop>
     ensures { Gives refusal_of result (Ok (refusals.DotMismatch (site_of site.entry) (context_text sig.now (tele_of ctx.now)) (term_text sig.now (tree_of written.now)) (term_text sig.now (tree_of forced.now)))) }
 {
-    Ok(Refusal::DotMismatch {
+    Ok(FunctionRefusal::DotMismatch {
         owner: owner_of(alloc, site.function.as_slice(), site.number)?,
         ctx: context_text(alloc, sig, ctx)?,
         written: print_term(alloc, sig, written)?,
@@ -47,7 +47,7 @@ fn refuse_unless(
     written: &Term,
     forced: &Term,
     holds: bool,
-) -> Result<(), Refusal>
+) -> Result<(), FunctionRefusal>
     ensures { Tells (λ _. tree_of written.now) result (spec.if_forced sig.now (site_of site.entry) (tele_of ctx.now) (tree_of written.now) (tree_of forced.now) holds) }
 {
     if holds {
@@ -66,7 +66,7 @@ fn check_forced(
     written: &Term,
     forced: &Term,
     kernel: &mut Kernel<'_>,
-) -> Result<(), Refusal>
+) -> Result<(), FunctionRefusal>
     requires kernel { kernel.old.signature ≡ sig.now }
     requires given { AreWellScoped sig.now (tele_of ctx.now) (tree_of written.now ∷ tree_of forced.now ∷ []) }
     ensures answer { Elaborates (λ _. tree_of written.now) result kernel.new.left (dot_forced sig.now (site_of site.entry) (tele_of ctx.now) (tree_of written.now, tree_of forced.now) kernel.old.left) }
@@ -88,7 +88,7 @@ fn check_written(
     forced: &Term,
     ty: &Term,
     kernel: &mut Kernel<'_>,
-) -> Result<(), Refusal>
+) -> Result<(), FunctionRefusal>
     requires kernel { kernel.old.signature ≡ sig.now }
     requires given { AreWellScoped sig.now (tele_of ctx.now) (tree_of ty.now ∷ tree_of written.now ∷ tree_of forced.now ∷ []) }
     ensures answer { Elaborates (λ _. tree_of written.now) result kernel.new.left (dot_written sig.now (site_of site.entry) (tele_of ctx.now) (tree_of written.now, tree_of forced.now) (tree_of ty.now) kernel.old.left) }
@@ -109,7 +109,7 @@ fn check_dot(
     written: &Term,
     forced: &Term,
     kernel: &mut Kernel<'_>,
-) -> Result<(), Refusal>
+) -> Result<(), FunctionRefusal>
     requires kernel { kernel.old.signature ≡ sig.now }
     requires given { AreWellScoped sig.now (tele_of ctx.now) (tree_of written.now ∷ tree_of forced.now ∷ []) }
     ensures answer { Elaborates (λ _. tree_of written.now) result kernel.new.left (spec.check_dot sig.now (site_of site.entry) (tele_of ctx.now) (tree_of written.now, tree_of forced.now) kernel.old.left) }
@@ -129,7 +129,7 @@ pub fn check_dots(
     ctx: &Tele,
     dots: &[(Term, Term)],
     kernel: &mut Kernel<'_>,
-) -> Result<(), Refusal>
+) -> Result<(), FunctionRefusal>
     requires kernel { kernel.old.signature ≡ sig.now }
     requires context { AreWellScoped sig.now (tele_of ctx.now) [] }
     requires dots { All (λ d. AreWellScoped sig.now (tele_of ctx.now) (tree_of d.0 ∷ tree_of d.1 ∷ [])) dots.now }

@@ -17,7 +17,7 @@ ghost use Rattle.with_abstraction.specs.Abstractions.{abstract_over_of};
 ghost use Rattle.with_abstraction.specs.Laws.{IsScopedAbstraction};
 ghost use Rattle.with_abstraction.specs.Meanings.{abstracted_of};
 
-use crate::function_refusals::{Refusal, level_too_high, or_memory, owner_of};
+use crate::function_refusals::{FunctionRefusal, level_too_high, or_memory, owner_of};
 use crate::function_walks::{GREATEST_LEVEL, Session};
 use crate::walk_checks::asking::{inferred, part_at, sort_of};
 use crate::walk_checks::parts::{Asked, Opening, Site};
@@ -44,15 +44,15 @@ fn mentions(own: u32, t: &Term) -> bool
 }
 
 /// The refusal where a term mentions the function.
-fn self_in_type(alloc: Global, site: Site) -> Result<Refusal, Stop>
+fn self_in_type(alloc: Global, site: Site) -> Result<FunctionRefusal, Stop>
     ensures { Gives refusal_of result (Ok (refusals.SelfInType (site_of site.entry))) }
 {
     let owner = owner_of(alloc, site.function.as_slice(), site.number)?;
-    Ok(Refusal::SelfInType(owner))
+    Ok(FunctionRefusal::SelfInType(owner))
 }
 
 /// Refuses a term that mentions the function.
-fn refuse_self(alloc: Global, own: u32, site: Site, t: &Term) -> Result<(), Refusal>
+fn refuse_self(alloc: Global, own: u32, site: Site, t: &Term) -> Result<(), FunctionRefusal>
     ensures { Tells (λ _. tree_of t.now) result (spec.without_self own (site_of site.entry) (tree_of t.now)) }
 {
     if mentions(own, t) {
@@ -63,17 +63,17 @@ fn refuse_self(alloc: Global, own: u32, site: Site, t: &Term) -> Result<(), Refu
 }
 
 /// The refusal of a helper whose level is too high.
-fn too_high(alloc: Global, sig: &Signature, site: Site, level: u8) -> Refusal
+fn too_high(alloc: Global, sig: &Signature, site: Site, level: u8) -> FunctionRefusal
     ensures { Unless (IsUnforeseen result) (refusal_of result ≡ refusals.level_too_high sig.now (refusals.OfGoal (site_of site.entry)) level spec.greatest_level) }
 {
     match part_at(alloc, Asked::Goal, site) {
         Ok(part) => level_too_high(alloc, sig, part, level, GREATEST_LEVEL),
-        Err(_) => Refusal::Stop(Stop::Memory),
+        Err(_) => FunctionRefusal::Stop(Stop::Memory),
     }
 }
 
 /// The level of a helper whose product has this sort, where it is not too high.
-fn low_level(alloc: Global, sig: &Signature, site: Site, sort: &Term) -> Result<u8, Refusal>
+fn low_level(alloc: Global, sig: &Signature, site: Site, sort: &Term) -> Result<u8, FunctionRefusal>
     ensures { Tells (λ n. n) result (spec.if_low_level sig.now (site_of site.entry) (tree_of sort.now)) }
 {
     match sort {
@@ -94,7 +94,7 @@ fn opening(
     site: Site,
     abstraction: Abstracted,
     sort: &Term,
-) -> Result<Opening, Refusal>
+) -> Result<Opening, FunctionRefusal>
     ensures answer { Tells opening_of result (spec.and_level (abstracted_of abstraction) (spec.if_low_level sig.now (site_of site.entry) (tree_of sort.now))) }
     ensures same { IfOk result (λ o. abstracted_of o.abstraction ≡ abstracted_of abstraction) }
 {
@@ -118,7 +118,7 @@ fn product_sort(
     site: Site,
     a: &Abstracted,
     kernel: &mut Kernel<'_>,
-) -> Result<Term, Refusal>
+) -> Result<Term, FunctionRefusal>
     requires kernel { kernel.old.signature ≡ sig.now }
     requires given { AreWellScoped sig.now [] (telescopes.products (abstracted_of a.now).telescope (abstracted_of a.now).goal ∷ []) }
     ensures answer { Elaborates tree_of result kernel.new.left (refusals.granted sig.now (refusals.OfGoal (site_of site.entry)) (infer_sort_of sig.now nesting [] (telescopes.products (abstracted_of a.now).telescope (abstracted_of a.now).goal) kernel.old.left)) }
@@ -137,7 +137,7 @@ fn at_level(
     site: Site,
     a: Abstracted,
     kernel: &mut Kernel<'_>,
-) -> Result<Opening, Refusal>
+) -> Result<Opening, FunctionRefusal>
     requires kernel { kernel.old.signature ≡ s.sig.now }
     requires given { AreWellScoped s.sig.now [] (telescopes.products (abstracted_of a).telescope (abstracted_of a).goal ∷ []) }
     ensures answer { Elaborates opening_of result kernel.new.left (level_asked (session_of s.entry) (site_of site.entry) (abstracted_of a) (abstracted_of a).goal kernel.old.left) }
@@ -157,7 +157,7 @@ fn at_goal(
     site: Site,
     a: Abstracted,
     kernel: &mut Kernel<'_>,
-) -> Result<Opening, Refusal>
+) -> Result<Opening, FunctionRefusal>
     requires kernel { kernel.old.signature ≡ s.sig.now }
     requires given { AreWellScoped s.sig.now [] (telescopes.products (abstracted_of a).telescope (abstracted_of a).goal ∷ []) }
     ensures answer { Elaborates opening_of result kernel.new.left (goal_asked (session_of s.entry) (site_of site.entry) (abstracted_of a) kernel.old.left) }
@@ -177,7 +177,7 @@ fn abstracted(
     t: &Term,
     ty: &Term,
     kernel: &mut Kernel<'_>,
-) -> Result<Abstracted, Refusal>
+) -> Result<Abstracted, FunctionRefusal>
     requires given { AreWellScoped kernel.old.signature (tele_of w.now.ctx) (tree_of w.now.goal ∷ tree_of t.now ∷ tree_of ty.now ∷ []) }
     ensures answer { Elaborates abstracted_of result kernel.new.left (refusals.halting (abstract_over_of kernel.old.signature (tele_of w.now.ctx) (tree_of w.now.goal) (tree_of t.now) (tree_of ty.now) kernel.old.left)) }
     ensures sum { kernel.new.left + kernel.new.spent ≡ kernel.old.left + kernel.old.spent }
@@ -187,7 +187,7 @@ fn abstracted(
 {
     match abstract_over_with(alloc, &w.ctx, &w.goal, t, ty, kernel) {
         Ok(a) => Ok(a),
-        Err(e) => Err(Refusal::Stop(e)),
+        Err(e) => Err(FunctionRefusal::Stop(e)),
     }
 }
 
@@ -200,7 +200,7 @@ fn over_its_type(
     t: &Term,
     ty: &Term,
     kernel: &mut Kernel<'_>,
-) -> Result<Opening, Refusal>
+) -> Result<Opening, FunctionRefusal>
     requires kernel { kernel.old.signature ≡ s.sig.now }
     requires given { AreWellScoped s.sig.now (tele_of w.now.ctx) (tree_of w.now.goal ∷ tree_of t.now ∷ tree_of ty.now ∷ []) }
     ensures answer { Elaborates opening_of result kernel.new.left (over_type (session_of s.entry) (site_of site.entry) (walk_of w.now) (tree_of t.now) (tree_of ty.now) kernel.old.left) }
@@ -224,7 +224,7 @@ fn with_type(
     t: &Term,
     ty: &Term,
     kernel: &mut Kernel<'_>,
-) -> Result<Opening, Refusal>
+) -> Result<Opening, FunctionRefusal>
     requires kernel { kernel.old.signature ≡ s.sig.now }
     requires given { AreWellScoped s.sig.now (tele_of w.now.ctx) (tree_of w.now.goal ∷ tree_of t.now ∷ tree_of ty.now ∷ []) }
     ensures answer { Elaborates opening_of result kernel.new.left (type_asked (session_of s.entry) (site_of site.entry) (walk_of w.now) (tree_of t.now) (tree_of ty.now) kernel.old.left) }
@@ -245,7 +245,7 @@ pub fn open_over(
     w: &Walk,
     t: &Term,
     kernel: &mut Kernel<'_>,
-) -> Result<Opening, Refusal>
+) -> Result<Opening, FunctionRefusal>
     requires kernel { kernel.old.signature ≡ s.sig.now }
     requires given { AreWellScoped s.sig.now (tele_of w.now.ctx) (tree_of w.now.goal ∷ tree_of t.now ∷ []) }
     ensures answer { Elaborates opening_of result kernel.new.left (spec.open_over (session_of s.entry) (site_of site.entry) (walk_of w.now) (tree_of t.now) kernel.old.left) }

@@ -10,7 +10,8 @@ use Rattle.drafts.specs.draft_checks.Checks.{unmarked}
 use Rattle.drafts.specs.draft_entering.FreeNames.{is_marked}
 use Rattle.elab_session.specs.Sessions.{IsReady}
 use Rattle.elab_session.proofs.PreludeReady.{prelude-ready}
-use Rattle.function_session.specs.Elaborating.{Elaborated, Refused, elaborate_of}
+use Rattle.elab_session.specs.declared.refusal.Refusal.{Refusal}
+use Rattle.function_session.specs.Elaborating.{Elaborated, elaborate_of}
 use Rattle.function_session.specs.Laws.{KeepsReady}
 use Rattle.function_session.proofs.Keeping.{elaborate-ready}
 use Rattle.surface_syntax.specs.word_laws.Words.{Each, HasWords, IsPlain, IsTyped}
@@ -54,7 +55,7 @@ meant-from meant fuel S (d ∷ ds) ready plain names =
           (λ T is free. meant-from meant fuel T ds is free names.1),
     )
   where
-    by : (r : Result Elaborated Refused) → IfOk r (KeepsReady S) → IfOk r (λ a. unmarked a.signature ≡ true)
+    by : (r : Result Elaborated Refusal) → IfOk r (KeepsReady S) → IfOk r (λ a. unmarked a.signature ≡ true)
         → ((T : Signature) → IsReady T → unmarked T ≡ true → AreMeant fuel T ds) → IfOk r (λ a. AreMeant fuel a.signature ds)
     by (Ok a) keeps free rest = rest a.signature keeps.ready free
     by (Err e) keeps free rest = tt

@@ -6,16 +6,14 @@ use Rattle.surface_syntax.specs.declared.tree.Word.{Word}
 use Rattle.resolve.specs.Functions as function
 use Rattle.clause_reports.specs.elaboration.Functions.{function_of}
 use Rattle.elab_session.specs.Declaring.{declare_of}
-use Rattle.function_session.specs.Elaborating.{Elaborated, Refused, on_function, on_lines, without_lines}
+use Rattle.elab_session.specs.declared.refusal.Refusal.{Refusal}
+use Rattle.function_session.specs.Elaborating.{Elaborated, on_function, on_lines, without_lines}
 
 -- a function that is resolved enters, with a line for each of its clauses
-abbrev pub enter_meant : Signature → (fuel : ℕ) → Word → function.Function → Result Elaborated Refused
+abbrev pub enter_meant : Signature → (fuel : ℕ) → Word → function.Function → Result Elaborated Refusal
 enter_meant S fuel x f = on_lines x fuel (function_of S f fuel).0
 
 -- A declaration. One of another form is the one that `elab_session` defines.
-abbrev pub elaborate_meant : Signature → (fuel : ℕ) → surf.Decl → Result Elaborated Refused
-elaborate_meant S fuel (surf.Def x ty body) = without_lines (declare_of S fuel (surf.Def x ty body))
-elaborate_meant S fuel (surf.Data x params ty cons) = without_lines (declare_of S fuel (surf.Data x params ty cons))
-elaborate_meant S fuel (surf.Decide x family decision) = without_lines (declare_of S fuel (surf.Decide x family decision))
-elaborate_meant S fuel (surf.Mutual params members family tag tags) = without_lines (declare_of S fuel (surf.Mutual params members family tag tags))
+abbrev pub elaborate_meant : Signature → (fuel : ℕ) → surf.Decl → Result Elaborated Refusal
 elaborate_meant S fuel (surf.Fun x ty clauses) = on_function (function.function S x ty clauses) (enter_meant S fuel x)
+elaborate_meant S fuel d = without_lines (declare_of S fuel d)

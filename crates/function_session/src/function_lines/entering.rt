@@ -13,7 +13,7 @@ use core_sig::{Draft, Signature};
 use core_terms::{Name, Stop, Units};
 use drafts::draft_checks::{is_enterable, is_unmarked};
 use drafts::draft_entering::{enter_draft, enter_named};
-use function_checks::function_refusals::Refusal;
+use function_checks::function_refusals::FunctionRefusal;
 use function_entries::translate;
 use leaf_terms::Plan;
 use std::alloc::Global;
@@ -25,7 +25,7 @@ fn enter_checked(
     function: &[u8],
     draft: &Draft,
     units: &mut Units,
-) -> Result<(), Refusal>
+) -> Result<(), FunctionRefusal>
     requires signature { IsOpen sig.old }
     requires draft { IsEnterableDraft sig.old (draft_of draft.now) }
     ensures answer { Elaborates (λ _. sig.new) result units.new.left (spec.checked_entered sig.old function.now (draft_of draft.now) units.old.left) }
@@ -47,7 +47,7 @@ fn enter(
     function: &[u8],
     draft: &Draft,
     units: &mut Units,
-) -> Result<(), Refusal>
+) -> Result<(), FunctionRefusal>
     requires { IsOpen sig.old }
     ensures answer { Elaborates (λ _. sig.new) result units.new.left (spec.draft_entered sig.old function.now (draft_of draft.now) units.old.left) }
     ensures sum { units.new.left + units.new.spent ≡ units.old.left + units.old.spent }
@@ -56,7 +56,7 @@ fn enter(
     ensures ready { IsOpen sig.new }
 {
     if !is_enterable(sig, draft)? {
-        return Err(Refusal::Stop(Stop::Deep));
+        return Err(FunctionRefusal::Stop(Stop::Deep));
     }
     enter_checked(alloc, sig, function, draft, units)
 }
@@ -68,7 +68,7 @@ fn enter_drafts(
     function: &[u8],
     drafts: &[Draft],
     units: &mut Units,
-) -> Result<(), Refusal>
+) -> Result<(), FunctionRefusal>
     requires { IsOpen sig.old }
     ensures answer { Elaborates (λ _. sig.new) result units.new.left (spec.drafts_entered sig.old function.now (map draft_of drafts.now) units.old.left) }
     ensures sum { units.new.left + units.new.spent ≡ units.old.left + units.old.spent }
@@ -92,7 +92,7 @@ fn enter_name(
     function: &[u8],
     values: &Name,
     units: &mut Units,
-) -> Result<(), Refusal>
+) -> Result<(), FunctionRefusal>
     requires { IsOpen sig.old }
     ensures answer { Elaborates (λ _. sig.new) result units.new.left (spec.values_entered sig.old function.now (Some values.now) units.old.left) }
     ensures sum { units.new.left + units.new.spent ≡ units.old.left + units.old.spent }
@@ -117,7 +117,7 @@ fn enter_values(
     function: &[u8],
     values: &Option<Name>,
     units: &mut Units,
-) -> Result<(), Refusal>
+) -> Result<(), FunctionRefusal>
     requires { IsOpen sig.old }
     ensures answer { Elaborates (λ _. sig.new) result units.new.left (spec.values_entered sig.old function.now values.now units.old.left) }
     ensures sum { units.new.left + units.new.spent ≡ units.old.left + units.old.spent }
@@ -139,7 +139,7 @@ fn enter_all(
     drafts: &[Draft],
     values: &Option<Name>,
     units: &mut Units,
-) -> Result<(), Refusal>
+) -> Result<(), FunctionRefusal>
     requires { IsOpen sig.old }
     ensures answer { Elaborates (λ _. sig.new) result units.new.left (spec.all_entered sig.old function.now (map draft_of drafts.now) values.now units.old.left) }
     ensures sum { units.new.left + units.new.spent ≡ units.old.left + units.old.spent }
@@ -157,7 +157,7 @@ fn enter_translated(
     sig: &mut Signature,
     plan: &Plan,
     units: &mut Units,
-) -> Result<(), Refusal>
+) -> Result<(), FunctionRefusal>
     requires { IsOpen sig.old }
     ensures answer { Elaborates (λ _. sig.new) result units.new.left (spec.translated sig.old (plan_of plan.now) units.old.left) }
     ensures sum { units.new.left + units.new.spent ≡ units.old.left + units.old.spent }
@@ -186,7 +186,7 @@ pub(crate) fn enter_plan(
     sig: &mut Signature,
     plan: &Plan,
     units: &mut Units,
-) -> Result<(), Refusal>
+) -> Result<(), FunctionRefusal>
     requires { IsReady sig.old }
     ensures answer { Elaborates (λ _. sig.new) result units.new.left (spec.plan_entered sig.old (plan_of plan.now) units.old.left) }
     ensures sum { units.new.left + units.new.spent ≡ units.old.left + units.old.spent }
@@ -195,7 +195,7 @@ pub(crate) fn enter_plan(
     ensures ready { IfOk result (λ _. IsOpen sig.new) }
 {
     if !is_open(sig) {
-        return Err(Refusal::Stop(Stop::Deep));
+        return Err(FunctionRefusal::Stop(Stop::Deep));
     }
     enter_translated(alloc, sig, plan, units)
 }

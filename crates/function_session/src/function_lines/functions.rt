@@ -16,7 +16,7 @@ use crate::function_lines::planning::plan_over;
 use crate::function_lines::reporting::report_parts;
 use core_sig::Signature;
 use core_terms::{Items, Units};
-use function_checks::function_refusals::Refusal;
+use function_checks::function_refusals::FunctionRefusal;
 use leaf_terms::Plan;
 use resolve::FunCore;
 use std::alloc::Global;
@@ -27,7 +27,7 @@ fn report_plan(
     sig: &mut Signature,
     plan: &Plan,
     units: &mut Units,
-) -> Result<Items<ClauseLine>, Refusal>
+) -> Result<Items<ClauseLine>, FunctionRefusal>
     requires { IsReady sig.old }
     ensures answer { Elaborates (lines_of sig.new) result units.new.left (spec.plan_reported (plan_of plan.now) sig.old units.old.left) }
     ensures sum { units.new.left + units.new.spent ≡ units.old.left + units.old.spent }
@@ -52,7 +52,7 @@ fn elaborate(
     sig: &mut Signature,
     f: &FunCore,
     units: &mut Units,
-) -> Result<Items<ClauseLine>, Refusal>
+) -> Result<Items<ClauseLine>, FunctionRefusal>
     requires { IsWorkingOn sig.old (fun_of f.now) }
     ensures answer { Elaborates (lines_of sig.new) result units.new.left (spec.function_made sig.old (fun_of f.now) units.old.left) }
     ensures sum { units.new.left + units.new.spent ≡ units.old.left + units.old.spent }
@@ -74,7 +74,7 @@ pub fn function(
     sig: &mut Signature,
     f: &FunCore,
     units: &mut Units,
-) -> Result<Items<ClauseLine>, Refusal>
+) -> Result<Items<ClauseLine>, FunctionRefusal>
     requires { IsWorkingOn sig.old (fun_of f.now) }
     ensures answer { Elaborates (lines_of sig.new) result units.new.left (spec.function_made sig.old (fun_of f.now) units.old.left) }
     ensures err { OnErr result (sig.new ≡ sig.old) }

@@ -9,7 +9,7 @@ ghost use Rattle.kernel_reduce.specs.WellScoped.{AreWellScoped};
 
 use core_sig::Signature;
 use core_terms::{Items, Term, Units, Verdict};
-use function_checks::function_refusals::{Refusal, WrittenPart, ill_typed};
+use function_checks::function_refusals::{FunctionRefusal, WrittenPart, ill_typed};
 use function_checks::function_walks::function_level;
 use kernel_check::Kernel;
 use std::alloc::Global;
@@ -20,7 +20,7 @@ fn sort_of(
     sig: &Signature,
     ty: &Term,
     kernel: &mut Kernel<'_>,
-) -> Result<Term, Refusal>
+) -> Result<Term, FunctionRefusal>
     requires kernel { kernel.old.signature ≡ sig.now }
     requires given { AreWellScoped sig.now [] (tree_of ty.now ∷ []) }
     ensures answer { Elaborates tree_of result kernel.new.left (spec.granted sig.now spec.OfType (infer_sort_of sig.now nesting [] (tree_of ty.now) kernel.old.left)) }
@@ -32,7 +32,7 @@ fn sort_of(
     match kernel.infer_sort(&ctx, ty) {
         Ok(Verdict::Yes(sort)) => Ok(sort),
         Ok(Verdict::No(denial)) => Err(ill_typed(alloc, sig, WrittenPart::Type, denial)),
-        Err(e) => Err(Refusal::Stop(e)),
+        Err(e) => Err(FunctionRefusal::Stop(e)),
     }
 }
 
@@ -42,7 +42,7 @@ pub(crate) fn level_of(
     sig: &Signature,
     ty: &Term,
     units: &mut Units,
-) -> Result<u8, Refusal>
+) -> Result<u8, FunctionRefusal>
     requires { AreWellScoped sig.now [] (tree_of ty.now ∷ []) }
     ensures answer { Elaborates (λ level. level) result units.new.left (made.level_of sig.now (tree_of ty.now) units.old.left) }
     ensures sum { units.new.left + units.new.spent ≡ units.old.left + units.old.spent }

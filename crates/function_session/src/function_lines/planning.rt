@@ -16,7 +16,7 @@ ghost use Rattle.theory.specs.WellFormed.{provisional};
 use core_sig::{Entry, Signature};
 use core_terms::{Stop, Term, Units, copy_name, copy_whole};
 use function_checks::function_clauses::{own_part, walk_clauses};
-use function_checks::function_refusals::Refusal;
+use function_checks::function_refusals::FunctionRefusal;
 use function_checks::function_walks::{Opened, Session, Walked};
 use function_plans::plan;
 use kernel_check::Kernel;
@@ -44,7 +44,7 @@ fn plan_from(
     f: &FunCore,
     part: Opened,
     kernel: &mut Kernel<'_>,
-) -> Result<Plan, Refusal>
+) -> Result<Plan, FunctionRefusal>
     requires kernel { kernel.old.signature ≡ s.sig.now }
     requires part { IsPartFor s.sig.now (opened_of part) (clauses_of f.now.clauses) }
     requires columns { length (opened_of part).terms ≡ length (opened_of part).tele }
@@ -83,7 +83,7 @@ fn plan_at(
     f: &FunCore,
     level: u8,
     units: &mut Units,
-) -> Result<Plan, Refusal>
+) -> Result<Plan, FunctionRefusal>
     requires { IsFunctionOver sig.now (fun_of f.now) }
     ensures answer { Elaborates plan_of result units.new.left (made.plan_from (record { signature = sig.now; name = f.now.name; own = own }) (fun_of f.now) (functions.own_part (fun_of f.now) level) units.old.left) }
     ensures sum { units.new.left + units.new.spent ≡ units.old.left + units.old.spent }
@@ -108,7 +108,7 @@ pub(crate) fn plan_over(
     f: &FunCore,
     level: u8,
     units: &mut Units,
-) -> Result<Plan, Refusal>
+) -> Result<Plan, FunctionRefusal>
     requires { IsWorkingOn sig.old (fun_of f.now) }
     ensures answer { Elaborates plan_of result units.new.left (made.plan_over sig.old (fun_of f.now) level units.old.left) }
     ensures sum { units.new.left + units.new.spent ≡ units.old.left + units.old.spent }

@@ -10,7 +10,7 @@ use core_sig::Signature;
 use core_terms::{Stop, Term};
 use core_text::{context_text, print_term};
 use drafts::draft_entering::ReportStop;
-use function_checks::function_refusals::{Refusal, or_memory, owner_of};
+use function_checks::function_refusals::{FunctionRefusal, or_memory, owner_of};
 use std::alloc::Global;
 use unification::Why;
 
@@ -24,10 +24,10 @@ fn stuck(
     left: &Term,
     right: &Term,
     why: Why,
-) -> Result<Refusal, Stop>
+) -> Result<FunctionRefusal, Stop>
     ensures { Gives refusal_of result (Ok (spec.of_report sig.now (spec.owner_of function.now clause) (pure.Stuck (tele_of ctx.now) (tree_of left.now) (tree_of right.now) why))) }
 {
-    Ok(Refusal::Stuck {
+    Ok(FunctionRefusal::Stuck {
         owner: owner_of(alloc, function, clause)?,
         ctx: context_text(alloc, sig, ctx)?,
         left: print_term(alloc, sig, left)?,
@@ -43,12 +43,12 @@ pub(crate) fn refused(
     function: &[u8],
     clause: u32,
     stop: ReportStop,
-) -> Refusal
+) -> FunctionRefusal
     ensures answer { Unless (IsUnforeseen result) (refusal_of result ≡ spec.of_report sig.now (spec.owner_of function.now clause) (stops.stop_of stop)) }
     ensures memory { stops.IsUnforeseen stop → IsUnforeseen result }
 {
     match stop {
-        ReportStop::Stop(e) => Refusal::Stop(e),
+        ReportStop::Stop(e) => FunctionRefusal::Stop(e),
         ReportStop::Stuck {
             ctx,
             left,
@@ -70,7 +70,7 @@ pub(crate) fn refused(
             place,
             ctx,
             reason,
-        } => Refusal::Rejected {
+        } => FunctionRefusal::Rejected {
             entry,
             line,
             place,

@@ -19,7 +19,7 @@ use clause_lines::{Line, report};
 use core_sig::Signature;
 use core_terms::{Items, Stop, Units, Walk, number_of};
 use drafts::draft_entering::ReportStop;
-use function_checks::function_refusals::{Refusal, owner_of};
+use function_checks::function_refusals::{FunctionRefusal, owner_of};
 use leaf_terms::{Part, Plan};
 use std::alloc::Global;
 
@@ -50,13 +50,13 @@ fn no_line(
     k: u32,
     number: u32,
     stop: ReportStop,
-) -> Refusal
+) -> FunctionRefusal
     ensures answer { Unless (IsUnforeseen result) (refusal_of result ≡ refusals.of_report sig.now (refusals.owner_of (part_named (plan_of plan.now).name k) number) (stops.stop_of stop)) }
     ensures memory { stops.IsUnforeseen stop → IsUnforeseen result }
 {
     match part_name(alloc, &plan.name, k) {
         Ok(name) => refused(alloc, sig, name.as_slice(), number, stop),
-        Err(_) => Refusal::Stop(Stop::Memory),
+        Err(_) => FunctionRefusal::Stop(Stop::Memory),
     }
 }
 
@@ -70,7 +70,7 @@ fn report_clause(
     number: u32,
     walk: &Walk,
     units: &mut Units,
-) -> Result<Line, Refusal>
+) -> Result<Line, FunctionRefusal>
     requires { IsOpen sig.old }
     ensures answer { Elaborates (λ line. reported sig.new (line_of line)) result units.new.left (spec.clause_reported (plan_of plan.now) k number (walk_of walk.now) sig.old units.old.left) }
     ensures sum { units.new.left + units.new.spent ≡ units.old.left + units.old.spent }
@@ -94,7 +94,7 @@ fn report_walks(
     walks: &[Walk],
     mut made: Items<ClauseLine>,
     units: &mut Units,
-) -> Result<Items<ClauseLine>, Refusal>
+) -> Result<Items<ClauseLine>, FunctionRefusal>
     requires { IsOpen sig.old }
     ensures answer { Elaborates (lines_of sig.new) result units.new.left (spec.walks_reported (plan_of plan.now) k number (map walk_of walks.now) (map clause_line_of made) sig.old units.old.left) }
     ensures sum { units.new.left + units.new.spent ≡ units.old.left + units.old.spent }
@@ -122,7 +122,7 @@ pub(crate) fn report_parts(
     parts: &[Part],
     made: Items<ClauseLine>,
     units: &mut Units,
-) -> Result<Items<ClauseLine>, Refusal>
+) -> Result<Items<ClauseLine>, FunctionRefusal>
     requires { IsOpen sig.old }
     ensures answer { Elaborates (lines_of sig.new) result units.new.left (spec.parts_reported (plan_of plan.now) k (parts_of parts.now) (map clause_line_of made) sig.old units.old.left) }
     ensures sum { units.new.left + units.new.spent ≡ units.old.left + units.old.spent }

@@ -5,11 +5,13 @@ use Rattle.theory.specs.Prelude.{prelude}
 use Rattle.theory.specs.Signatures.{Signature}
 use Rattle.surface_syntax.specs.Trees.{Decl}
 use Rattle.function_laws.specs.declaration_laws.Meant.{elaborate_meant}
-use Rattle.function_session.specs.Elaborating.{Elaborated, Refused}
+use Rattle.elab_session.specs.declared.refusal.Refusal.{Refusal}
+use Rattle.function_session.specs.Elaborating.{Elaborated}
 use Rattle.elim_program.specs.DefinedOutputs as defined
 use Rattle.elim_program.specs.DefinedOutputs.{IsOutput}
 use Rattle.elim_program.specs.Lines.{text_of}
-use Rattle.elim_program.specs.Outputs.{Block, Output, accepted_lines, after, block, compiled, declared_block, declared_name, followed, head_lines, refused_lines}
+use Rattle.elim_program.specs.Outputs.{Block, Output, accepted_lines, after, block, compiled, declared_block, declared_name, followed, head_lines}
+use Rattle.elim_program.specs.Refusals.{refused_lines}
 use Rattle.elim_program.specs.declared.status.Status.TheVariants as statuses
 use Rattle.elim_program.proofs.OneOutput.{one_output}
 use Rattle.headline.specs.meaning_laws.Complete.{AreAccepted, EachIsAnswered, IsMeantOutput, RunsAgree, WholeIsMeant, end, lines_before, next}
@@ -57,7 +59,7 @@ accepted-front fuel S _ rest T (next _ _ d ds a is more) =
     ∙ ap (λ r. block ((followed (declared_block S d r) (declarations_meant fuel (after S r) ds)).lines ++ B.lines) B.refused) (sym is)
 
 -- the block of a declaration and of those after it, by what is answered for it
-block-of : (fuel : ℕ) (S : Signature) (d : Decl) (back : List Decl) → Result Elaborated Refused → Block
+block-of : (fuel : ℕ) (S : Signature) (d : Decl) (back : List Decl) → Result Elaborated Refusal → Block
 block-of fuel S d back r = followed (declared_block S d r) (declarations_meant fuel (after S r) back)
 
 refused-with : List (List ℕ) → Output
@@ -67,7 +69,7 @@ module _ (command : Flags) (front : List Decl) (d : Decl) (back : List Decl) (S 
   before : List (List ℕ)
   before = (declarations_meant command.fuel (prelude command.k) front).lines
 
-  made : Result Elaborated Refused → Output
+  made : Result Elaborated Refusal → Output
   made r = compiled command.k (block (before ++ (block-of command.fuel S d back r).lines) (block-of command.fuel S d back r).refused)
 
   output-is : compiled_meant command (Ok (front ++ d ∷ back)) ≡ made (elaborate_meant S command.fuel d)
@@ -83,7 +85,7 @@ module _ (command : Flags) (front : List Decl) (d : Decl) (back : List Decl) (S 
         ap (λ (o : Output). o.lines) (output-is ∙ ap made is) ∙ sym (append_assoc (head_lines command.k) before (accepted_lines S a ++ rest)),
       )
 
-  refuses : (e : Refused) → elaborate_meant S command.fuel d ≡ Err e
+  refuses : (e : Refusal) → elaborate_meant S command.fuel d ≡ Err e
       → compiled_meant command (Ok (front ++ d ∷ back)) ≡ refused-with (lines_before command front ++ refused_lines (declared_name d) e)
   unfolding before made block-of refused-with
   refuses e is = output-is ∙ ap made is ∙ ap refused-with (sym (append_assoc (head_lines command.k) before (refused_lines (declared_name d) e)))

@@ -4,7 +4,8 @@ use Rattle.theory.specs.Prelude.{prelude}
 use Rattle.theory.specs.Signatures.{Signature}
 use Rattle.surface_syntax.specs.Grammar.{limit}
 use Rattle.surface_syntax.specs.Trees.{Decl}
-use Rattle.function_session.specs.Elaborating.{Elaborated, Refused, elaborate_of}
+use Rattle.elab_session.specs.declared.refusal.Refusal.{Refusal}
+use Rattle.function_session.specs.Elaborating.{Elaborated, elaborate_of}
 use Rattle.function_laws.specs.declaration_laws.Laws.{AreMeant, TextIsMeant}
 use Rattle.elim_program.specs.DefinedOutputs.{compiles, works}
 use Rattle.elim_program.specs.Outputs.{Output, after, compiled, declarations, declared_block, followed, text_block}
@@ -25,7 +26,7 @@ lines-meant-from fuel S (d ∷ ds) are =
     by (elaborate_of S fuel d) are.1 (λ T is. lines-meant-from fuel T ds is)
     ∙ ap (λ r. followed (declared_block S d r) (declarations_meant fuel (after S r) ds)) are.0
   where
-    by : (r : Result Elaborated Refused) → IfOk r (λ a. AreMeant fuel a.signature ds)
+    by : (r : Result Elaborated Refusal) → IfOk r (λ a. AreMeant fuel a.signature ds)
         → ((T : Signature) → AreMeant fuel T ds → declarations fuel T ds ≡ declarations_meant fuel T ds)
         → followed (declared_block S d r) (declarations fuel (after S r) ds) ≡ followed (declared_block S d r) (declarations_meant fuel (after S r) ds)
     by (Ok a) is rest = ap (λ b. followed (declared_block S d (Ok a)) b) (rest a.signature is)
@@ -37,7 +38,7 @@ counts-meant-from fuel S (d ∷ ds) c are =
     by (elaborate_of S fuel d) are.1 (λ T more is. counts-meant-from fuel T ds more is)
     ∙ ap (λ r. on_worked d r (λ a. worked_meant fuel a.signature ds (with_accepted c a))) are.0
   where
-    by : (r : Result Elaborated Refused) → IfOk r (λ a. AreMeant fuel a.signature ds)
+    by : (r : Result Elaborated Refusal) → IfOk r (λ a. AreMeant fuel a.signature ds)
         → ((T : Signature) (more : Counted) → AreMeant fuel T ds → worked fuel T ds more ≡ worked_meant fuel T ds more)
         → on_worked d r (λ a. worked fuel a.signature ds (with_accepted c a)) ≡ on_worked d r (λ a. worked_meant fuel a.signature ds (with_accepted c a))
     by (Ok a) is rest = rest a.signature (with_accepted c a) is

@@ -11,14 +11,13 @@ use Rattle.core_text.specs.RawEntries.{RawEntry}
 use Rattle.core_text.specs.declared.stop.CoreTextStop.{CoreTextStop}
 use Rattle.family_check.specs.Entering.{Entered}
 use Rattle.elab_session.specs.Entering.{enter_of}
-use Rattle.elab_session.specs.declared.refusal.Refusal as session
-use Rattle.function_session.specs.Elaborating.{Elaborated, Refused, Declaration, Function, elaborate_of}
+use Rattle.elab_session.specs.declared.refusal.Refusal.{Refusal}
+use Rattle.function_session.specs.Elaborating.{Elaborated, elaborate_of}
 use Rattle.elim_program.specs.declared.status.Status.TheVariants as status
 use Rattle.elim_program.specs.ClauseTexts.{clause_lines}
 use Rattle.elim_program.specs.DefinedOutputs.{refused_words, compiles, verifies, works}
-use Rattle.elim_program.specs.FunctionRefusals as function
-use Rattle.elim_program.specs.Outputs.{Block, block, lines_after, accepted_line, declared_name, refused_lines, declared_block, after, followed, declarations, text_block, head_lines, compiled}
-use Rattle.elim_program.specs.Refusals.{stop_text, refusal_line, refusal_text}
+use Rattle.elim_program.specs.Outputs.{Block, block, lines_after, accepted_line, declared_name, declared_block, after, followed, declarations, text_block, head_lines, compiled}
+use Rattle.elim_program.specs.Refusals.{candidate_lines, candidate_of, refusal_line, refusal_text, refused_lines, stop_text}
 use Rattle.elim_program.specs.Texts.{limited}
 use Rattle.elim_program.specs.Verifies.{read_name, verified_line, entry_block, read_block, after_entry, unread, next_block, entries, after_head, file_block}
 use Rattle.elim_program.specs.WorkTexts.{summary_line}
@@ -82,17 +81,14 @@ followed-told first rest a b = by first.refused refl
 
 -- ---- lines
 
-refusal-told : (name : List ℕ) (e : session.Refusal) → Tells true (refusal_line name e)
+refusal-told : (name : List ℕ) (e : Refusal) → Tells true (refusal_line name e)
 refusal-told name e = begins-itself (codes "# refused ") (name ++ codes " " ++ refusal_text e)
 
 stop-told : (text : List ℕ) → Ends ((codes "# refused " ++ text) ∷ []) true
 stop-told text = one (codes "# refused " ++ text) true (begins-itself (codes "# refused ") text)
 
-refused-told : (name : List ℕ) (e : Refused) → Ends (refused_lines name e) true
-refused-told name (Declaration e) = one (refusal_line name e) true (refusal-told name e)
-refused-told name (Function e) =
-    after-others (function.candidate_lines e) _ true
-    (one (codes "# refused " ++ name ++ codes " " ++ function.refusal_text e) true (begins-itself (codes "# refused ") (name ++ codes " " ++ function.refusal_text e)))
+refused-told : (name : List ℕ) (e : Refusal) → Ends (refused_lines name e) true
+refused-told name e = after-others (candidate_lines (candidate_of e)) _ true (one (refusal_line name e) true (refusal-told name e))
 
 accepted-told : (name : List ℕ) → Tells false (accepted_line name)
 accepted-told name = (refl, refl)
@@ -106,7 +102,7 @@ heads-told false = record { front = codes "elim 1" ∷ []; line = codes "prelude
 
 -- ---- blocks
 
-declared-told : (S : Signature) (d : Decl) (r : Result Elaborated Refused) → IsToldBy (declared_block S d r)
+declared-told : (S : Signature) (d : Decl) (r : Result Elaborated Refusal) → IsToldBy (declared_block S d r)
 unfolding IsToldBy
 declared-told S d (Ok a) =
     inr (after-others (lines_after S a.signature) (clause_lines a.signature a.lines ++ accepted_line a.name ∷ []) false
@@ -120,7 +116,7 @@ declarations-told fuel S (d ∷ ds) =
     followed-told (declared_block S d (elaborate_of S fuel d)) (declarations fuel (after S (elaborate_of S fuel d)) ds)
     (declared-told S d (elaborate_of S fuel d)) (declarations-told fuel (after S (elaborate_of S fuel d)) ds)
 
-entry-told : (name : List ℕ) (r : Result Entered session.Refusal) → IsToldBy (entry_block name r)
+entry-told : (name : List ℕ) (r : Result Entered Refusal) → IsToldBy (entry_block name r)
 unfolding IsToldBy
 entry-told name (Ok x) = inr (one (verified_line name) false (verified-told name))
 entry-told name (Err e) = inr (one (refusal_line name e) true (refusal-told name e))
@@ -160,7 +156,7 @@ worked-told : (n fuel : ℕ) (S : Signature) (ds : List Decl) (c : Counted) → 
 worked-told n fuel S [] c = one (summary_line n c) false (refl, refl)
 worked-told n fuel S (d ∷ ds) c = by (λ T more. worked-told n fuel T ds more) (elaborate_of S fuel d)
   where
-    by : ((T : Signature) (more : Counted) → Ends (worked_block n (worked fuel T ds more)).lines (worked_block n (worked fuel T ds more)).refused) → (r : Result Elaborated Refused)
+    by : ((T : Signature) (more : Counted) → Ends (worked_block n (worked fuel T ds more)).lines (worked_block n (worked fuel T ds more)).refused) → (r : Result Elaborated Refusal)
         → Ends (worked_block n (on_worked d r (λ a. worked fuel a.signature ds (with_accepted c a)))).lines (worked_block n (on_worked d r (λ a. worked fuel a.signature ds (with_accepted c a)))).refused
     by rec (Ok a) = rec a.signature (with_accepted c a)
     by rec (Err e) = refused-told (declared_name d) e

@@ -14,7 +14,8 @@ use Rattle.core_text.proofs.PreludeReadable.{prelude-readable}
 use Rattle.core_text.proofs.SurfaceReadable.{surface-names-are-readable}
 use Rattle.elab_session.specs.Sessions.{IsReady}
 use Rattle.elab_session.proofs.PreludeReady.{prelude-ready}
-use Rattle.function_session.specs.Elaborating.{Elaborated, Refused, elaborate_of}
+use Rattle.elab_session.specs.declared.refusal.Refusal.{Refusal}
+use Rattle.function_session.specs.Elaborating.{Elaborated, elaborate_of}
 use Rattle.function_session.specs.Laws.{KeepsReady}
 use Rattle.function_session.proofs.Keeping.{elaborate-ready}
 use Rattle.refusal_laws.specs.accepted_laws.Checked.{Checked, unchanged, one_more}
@@ -64,7 +65,7 @@ seen fuel P S [] before ready shows accepted = (transport (λ ls. Shows P S (cor
 seen fuel P S (d ∷ ds) before ready shows accepted =
     by (elaborate_of S fuel d) (elaborate-ready S fuel d ready) (λ T lines is so_far. seen fuel P T ds lines is so_far) accepted
   where
-    by : (r : Result Elaborated Refused) → IfOk r (KeepsReady S)
+    by : (r : Result Elaborated Refusal) → IfOk r (KeepsReady S)
         → ((T : Signature) (lines : List (List ℕ)) → IsReady T → Shows P T (core_lines lines) → (declarations fuel T ds).refused ≡ false
         → IsSeen P (signature_after fuel T ds) (lines ++ (declarations fuel T ds).lines))
         → (followed (declared_block S d r) (declarations fuel (after S r) ds)).refused ≡ false
@@ -83,7 +84,7 @@ accepts : (fuel : ℕ) (S : Signature) (ds : List Decl) → (declarations fuel S
 accepts fuel S [] accepted = end S
 accepts fuel S (d ∷ ds) accepted = by (elaborate_of S fuel d) refl (λ T. accepts fuel T ds) accepted
   where
-    by : (r : Result Elaborated Refused) → elaborate_of S fuel d ≡ r
+    by : (r : Result Elaborated Refusal) → elaborate_of S fuel d ≡ r
         → ((T : Signature) → (declarations fuel T ds).refused ≡ false → Accepts fuel T ds (signature_after fuel T ds))
         → (followed (declared_block S d r) (declarations fuel (after S r) ds)).refused ≡ false → Accepts fuel S (d ∷ ds) (signature_after fuel (after S r) ds)
     by (Ok a) is rest accepted = next S (signature_after fuel a.signature ds) d ds a is (rest a.signature accepted)

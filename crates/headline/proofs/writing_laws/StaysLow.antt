@@ -9,7 +9,8 @@ use Rattle.resolve.specs.declared.stop.ResolveStop.{ResolveStop}
 use Rattle.tree_translation.specs.Plans.{Plan}
 use Rattle.clause_reports.specs.elaboration.Refusals.{Refusal}
 use Rattle.function_session.specs.function_lines.FunctionMade.{plan_over}
-use Rattle.function_session.specs.Elaborating.{Elaborated, Refused}
+use Rattle.elab_session.specs.declared.refusal.Refusal as session
+use Rattle.function_session.specs.Elaborating.{Elaborated}
 use Rattle.surface_syntax.specs.word_laws.Words.{Each}
 use Rattle.headline.specs.writing_laws.Writing.{AreLow, HasFewParameters, EntriesStayLow}
 use Rattle.headline.proofs.writing_laws.Carrying.{Any, Keeps}
@@ -56,6 +57,6 @@ pub entries-stay-low : EntriesStayLow
 entries-stay-low = (
   λ k n e after at. (let lt = slice_get_within (prelude k).entries n e at in absurd (omega arith)),
   λ S fuel d a low few is. (
-      let Keeps-low : Result Elaborated Refused → Type 0 = λ r. IfOk r (λ b. AreLow b.signature) in
+      let Keeps-low : Result Elaborated session.Refusal → Type 0 = λ r. IfOk r (λ b. AreLow b.signature) in
       subst Keeps-low is (elaborated-keeps Any Any Any (2 ^ 32) AreLow low-is-kept S low fuel d (few-is S d few))),
 )

@@ -21,7 +21,8 @@ use Rattle.family_check.specs.Entering.{Entered}
 use Rattle.family_check.specs.Entering as entering
 use Rattle.family_check.specs.Laws.{EntersAsDeclared}
 use Rattle.family_check.proofs.AsDeclared.{declare-gives}
-use Rattle.function_session.specs.Elaborating.{Elaborated, Refused, elaborate_of}
+use Rattle.elab_session.specs.declared.refusal.Refusal.{Refusal}
+use Rattle.function_session.specs.Elaborating.{Elaborated, elaborate_of}
 use Rattle.elim_program.specs.Acceptance.{Accepts, end, next}
 use Rattle.surface_syntax.specs.word_laws.Words.{Each}
 use Rattle.headline.specs.writing_laws.Writing.{AreLow, HasFewParameters, IsSurfaceName, IsOrdinary, AcceptedIsWritable}
@@ -143,7 +144,7 @@ module _ (stay : NamesStayReadable) (begins : PreludeHasReadableNames) (surface 
 
   named-after : (S : Signature) (fuel : ℕ) (d : surf.Decl) (a : Elaborated) → AreNamed S → IsOrdinary S d → elaborate_of S fuel d ≡ Ok a → AreNamed a.signature
   named-after S fuel d a named h is =
-      let Is : Result Elaborated Refused → Type 0 = λ r. IfOk r (λ b. AreNamed b.signature) in
+      let Is : Result Elaborated Refusal → Type 0 = λ r. IfOk r (λ b. AreNamed b.signature) in
       subst Is is (elaborated-keeps IsDeclarableName IsSurfaceName (λ k. k < 10000000000) (2 ^ 32) AreNamed names-are-kept S named fuel d (ordinary-is S d h))
 
   led : (fuel : ℕ) (S : Signature) (ds : List surf.Decl) (T : Signature) → Each (λ d. (U : Signature) → IsOrdinary U d) ds → Accepts fuel S ds T → AreNamed S → AreLow S

@@ -5,9 +5,11 @@ use Rattle.theory.specs.Prelude.{prelude}
 use Rattle.theory.specs.Signatures.{Signature}
 use Rattle.surface_syntax.specs.Trees.{Decl}
 use Rattle.function_laws.specs.declaration_laws.Meant.{elaborate_meant}
-use Rattle.function_session.specs.Elaborating.{Elaborated, Refused}
+use Rattle.elab_session.specs.declared.refusal.Refusal.{Refusal}
+use Rattle.function_session.specs.Elaborating.{Elaborated}
 use Rattle.elim_program.specs.Lines.{text_of}
-use Rattle.elim_program.specs.Outputs.{Output, accepted_lines, compiled, declared_name, head_lines, refused_lines, usage}
+use Rattle.elim_program.specs.Outputs.{Output, accepted_lines, compiled, declared_name, head_lines, usage}
+use Rattle.elim_program.specs.Refusals.{refused_lines}
 use Rattle.elim_program.specs.Runs.{IsWhole}
 use Rattle.elim_program.specs.Texts.{Answer, Gives, limited}
 use Rattle.elim_program.specs.Verifies.{file_block}
@@ -62,7 +64,7 @@ EachIsAnswered =
     (command : Flags) (front : List Decl) (d : Decl) (back : List Decl) (S : Signature) → AreAccepted command.fuel (prelude command.k) front S
     → ((a : Elaborated) → elaborate_meant S command.fuel d ≡ Ok a
     → (rest : List (List ℕ)) × ((compiled_meant command (Ok (front ++ d ∷ back))).lines ≡ lines_before command front ++ (accepted_lines S a ++ rest)))
-    × ((e : Refused) → elaborate_meant S command.fuel d ≡ Err e
+    × ((e : Refusal) → elaborate_meant S command.fuel d ≡ Err e
     → compiled_meant command (Ok (front ++ d ∷ back))
     ≡ record { lines = lines_before command front ++ refused_lines (declared_name d) e; status = statuses.Refused })
 

@@ -1,18 +1,15 @@
 -- Laws that use the headline of the program.
-use Rattle.std.specs.Prelude.{◌≡◌, ◌<◌, ◌++◌, ℕ, false, List, length, None, Ok, IfErr}
-use Rattle.theory.specs.Signatures.{Signature}
+use Rattle.std.specs.Prelude.{◌≡◌, ◌<◌, ◌++◌, ℕ, false, List, length, None, Ok}
 use Rattle.surface_syntax.specs.Parses.{parsed}
 use Rattle.surface_syntax.specs.Trees.{Decl}
 use Rattle.surface_syntax.specs.declared.token.Token.{Token}
 use Rattle.elab_session.specs.declared.refusal.Refusal.{Refusal}
-use Rattle.function_session.specs.Elaborating.{Declaration, Function, Refused, elaborate_of}
 use Rattle.elim_program.specs.DefinedOutputs.{IsOutput}
-use Rattle.elim_program.specs.FunctionRefusals as functions
 use Rattle.elim_program.specs.Headline.{IsShown}
 use Rattle.elim_program.specs.Lines.{lines_of, text_of}
 use Rattle.elim_program.specs.Outputs.{Output}
 use Rattle.elim_program.specs.Reading.{IsRead}
-use Rattle.elim_program.specs.Refusals as refusals
+use Rattle.elim_program.specs.Refusals.{refusal_text}
 use Rattle.elim_program.specs.Texts.{Gives}
 use Rattle.elim_program.specs.Unbuilt.{unbuilt}
 use Rattle.elim_program.specs.VerifyHeadline.{IsVerified}
@@ -38,16 +35,9 @@ GivesByTheGrammar = (bytes : List ℕ) (decls : List Decl) → Gives bytes (Ok d
 abbrev pub StatusFollows : Type 0
 StatusFollows = (words : List (List ℕ)) (bytes : List ℕ) (out : Output) → IsOutput words bytes out → out.status ≡ status_by (last_line out.lines)
 
--- the reason that is printed for a declaration's refusal is not empty
-abbrev pub HasReason : Refused → Type 0
-HasReason (Declaration e) = 0 < length (refusals.refusal_text e)
-HasReason (Function e) = 0 < length (functions.refusal_text e)
-
--- Each line that is defined for a refusal has a reason: of an entry of a core file, of a declaration.
+-- the reason that is printed for a refusal, of a declaration or of an entry of a core file, is not empty
 abbrev pub ReasonsAreGiven : Type 0
-ReasonsAreGiven =
-    ((e : Refusal) → 0 < length (refusals.refusal_text e))
-    × ((S : Signature) (fuel : ℕ) (d : Decl) → IfErr (elaborate_of S fuel d) HasReason)
+ReasonsAreGiven = (e : Refusal) → 0 < length (refusal_text e)
 
 -- Where the words do not ask for K, no line above the one that accepts a declaration is that of an instance of K, and no
 -- entry of the signature that they show holds K.

@@ -1,11 +1,10 @@
 use Rattle.std.proofs.Common.{◌++◌, codes, sym, append_assoc}
-use Rattle.elim_program.specs.FunctionRefusals as spec
-use Rattle.function_checks.specs.function_refusals.RefusalMeanings.{owner_meant}
+use Rattle.elim_program.specs.Refusals.{clause_text}
 use Rattle.elim_program.proofs.TextLines.{on_both}
 use Rattle.elim_program.proofs.refused_functions.write_mismatch.Goals as goal
 
 pub returns : goal.returns
 returns c =
-    let first = codes "DotMismatch " ++ spec.owner_text (owner_meant c.args.owner.now) ++ codes " " ++ c.args.ctx.now ++ codes " " ++ c.args.written.now in
+    let first = codes "DotMismatch " ++ clause_text c.args.function.now c.args.clause ++ codes " " ++ c.args.ctx.now ++ codes " " ++ c.args.written.now in
     on_both c.write_after.result c.args.out.now.items _ _ first (codes " forced " ++ c.args.forced.now) (first ++ codes " forced " ++ c.args.forced.now) c.in_ok-write_written.ensures c.write_after.ensures
     (sym (append_assoc first (codes " forced ") c.args.forced.now))

@@ -4,6 +4,6 @@ use Rattle.core_text.specs.RawEntries.{entry_shown}
 use Rattle.tree_cases.proofs.Entering.{can-enter}
 use Rattle.tree_cases.proofs.comparing.is_entered.Goals as goal
 
-pub enter-requires-clause-entry : goal.enter-requires-clause-entry
-enter-requires-clause-entry c =
-    can-enter c.args.session.now.signature (entry_shown (length c.args.session.now.signature.entries) (entry_of c.args.entry)) c.requires.scoped
+pub enter_entry-requires-clause-entry : goal.enter_entry-requires-clause-entry
+enter_entry-requires-clause-entry c =
+    can-enter c.args.sig.now (entry_shown (length c.args.sig.now.entries) (entry_of c.args.entry)) c.requires.scoped

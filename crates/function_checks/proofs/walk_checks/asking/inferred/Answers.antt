@@ -1,7 +1,7 @@
 use Rattle.std.proofs.Common.{ap}
 use Rattle.core_terms.specs.Meanings.{tree_of, tele_of}
 use Rattle.function_checks.specs.function_refusals.RefusalMeanings.{refusal_of}
-use Rattle.function_checks.specs.declared.function_refusals.refusal.Refusal.TheVariants as refused
+use Rattle.function_checks.specs.declared.function_refusals.refusal.FunctionRefusal.TheVariants as refused
 use Rattle.kernel_check.specs.Checking.{infer_of}
 use Rattle.kernel_check.proofs.Contexts.{context-reverse}
 use Rattle.kernel_reduce.specs.Reduction.{nesting}

@@ -1,6 +1,6 @@
 use Rattle.std.proofs.Common.{ap}
 use Rattle.core_terms.specs.Meanings.{tree_of, tele_of}
-use Rattle.function_checks.specs.declared.function_refusals.refusal.Refusal.TheVariants as refused
+use Rattle.function_checks.specs.declared.function_refusals.refusal.FunctionRefusal.TheVariants as refused
 use Rattle.function_checks.proofs.walk_checks.Chains.{halting-ok, halting-err}
 use Rattle.with_abstraction.specs.Abstractions.{abstract_over_of}
 use Rattle.with_abstraction.specs.Meanings.{abstracted_of}

@@ -7,16 +7,17 @@ ghost use Rattle.core_sig.specs.Kinds.{HasEntryKinds};
 ghost use Rattle.core_sig.specs.Meanings.{entry_of};
 ghost use Rattle.core_text.specs.RawEntries.{entry_shown};
 ghost use Rattle.elab_session.specs.Adding.{IsAdded};
-ghost use Rattle.elab_session.specs.Declaring as spec;
 ghost use Rattle.elab_session.specs.Entering.{CanEnter, Enters, enter_of};
-ghost use Rattle.elab_session.specs.Laws.{IsAsWritten};
 ghost use Rattle.elab_session.specs.Sessions.{IsReady};
+ghost use Rattle.function_session.specs.Elaborating.{elaborate_of};
+ghost use Rattle.function_session.specs.Laws.{IsAsWritten};
+ghost use Rattle.function_session.specs.Meanings.{Answers, elaborated_in};
 
-use crate::Refusal;
-use crate::declaring::declare;
-use crate::entering::enter_entry;
+use crate::Accepted;
+use crate::elaborating::elaborate;
 use core_sig::{Entry, Signature};
-use core_terms::{Name, Stop};
+use core_terms::Stop;
+use elab_session::{Refusal, enter_entry};
 use std::alloc::Global;
 use std::marker::Model;
 use surface_syntax::Decl;
@@ -25,13 +26,14 @@ use surface_syntax::Decl;
 /// signature leaves it well formed, settled, and with the prelude at its front.
 #[derive(Drop)]
 pub struct Session {
-    pub sig: Signature,
-    pub fuel: u64,
-    pub alloc: Global,
+    sig: Signature,
+    fuel: u64,
+    alloc: Global,
 }
 
 impl Model for Session {
-    ghost use Rattle.elab_session.specs.Sessions.{Session, IsReady, session_code};
+    ghost use Rattle.elab_session.specs.Sessions.{IsReady};
+    ghost use Rattle.function_session.specs.Sessions.{Session, session_code};
 
     ghost Value = { Session };
 
@@ -61,16 +63,18 @@ impl Session {
         &self.sig
     }
 
-    /// Adds the entries of a declaration, and answers its name. After a refusal the session is as it was.
-    pub fn declare(&mut self, d: &Decl) -> Result<Name, Refusal>
-        ensures answer { spec.Answers self.new.signature result (spec.declare_of self.old.signature self.old.fuel (decl_of d.now)) }
+    /// Adds the entries of a declaration. After a refusal the session is as it was.
+    pub fn declare(&mut self, d: &Decl) -> Result<Accepted, Refusal>
+        ensures answer { Answers self.new.signature result (elaborate_of self.old.signature self.old.fuel (decl_of d.now)) }
         ensures err { OnErr result (self.new ≡ self.old) }
         ensures fuel { self.new.fuel ≡ self.old.fuel }
         ensures longer { IsPrefix self.old.signature self.new.signature }
         ensures ready { IsReady self.new.signature }
-        ensures written { IfOk result (λ name. IsAsWritten self.old.signature (decl_of d.now) (spec.accepted_as name self.new.signature)) }
+        ensures written { IfOk result (λ a. IsAsWritten self.old.signature self.old.fuel (decl_of d.now) (elaborated_in self.new.signature a)) }
+        ensures begins { IfOk result (λ a. a.from ≡ length self.old.signature.entries) }
+        ensures ends { IfOk result (λ a. a.to ≡ length self.new.signature.entries) }
     {
-        declare(self.alloc, &mut self.sig, self.fuel, d)
+        elaborate(self.alloc, &mut self.sig, self.fuel, d)
     }
 
     /// Adds an entry of a core file and answers its number, also where it is an instance that is there already. After a refusal
