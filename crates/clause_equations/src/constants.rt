@@ -5,8 +5,8 @@ ghost use Rattle.leaf_terms.specs.PlanMeanings.{plan_of};
 ghost use Rattle.clause_reports.specs.Equations as spec;
 
 use core_sig::{Found, Signature};
-use core_terms::{Name, Stop, Term, copy_name, copy_whole};
-use leaf_terms::{Plan, helper_name};
+use core_terms::{Name, Stop, Term, copy_whole};
+use leaf_terms::{Plan, part_name};
 use std::alloc::Global;
 
 /// The number of the entry with a name, or 0 where no entry has it.
@@ -17,16 +17,6 @@ pub fn entry_number(sig: &Signature, name: &Name) -> u32
         Some(Found::Entry(n)) => n,
         Some(Found::Con(_, _)) | None => 0,
     }
-}
-
-/// The name of part k of a function: its own, or that of helper k.
-pub fn part_name(alloc: Global, function: &Name, k: u32) -> Result<Name, Stop>
-    ensures { Gives (λ name. name) result (Ok (spec.part_named function.now k)) }
-{
-    if k == 0 {
-        return Ok(copy_name(alloc, function)?);
-    }
-    helper_name(alloc, function, k)
 }
 
 /// The number that a constant of the plan has in the signature.

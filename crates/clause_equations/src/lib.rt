@@ -11,7 +11,7 @@ mod showing;
 mod sides;
 
 pub use clauses::{equation, equation_at};
-pub use constants::{entry_number, in_signature, part_name};
+pub use constants::{entry_number, in_signature};
 pub use last_arguments::{applied_to_last, values_of_recursion};
 pub use parts::{part_or, pats_at, side_or};
 pub use showing::{with_shown, written};

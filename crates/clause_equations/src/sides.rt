@@ -12,12 +12,12 @@ ghost use Rattle.clause_reports.specs.Equations as equations;
 ghost use Rattle.clause_equations.specs.CodeEquations as spec;
 ghost use Rattle.clause_equations.specs.EquationMeanings.{site_of};
 
-use crate::constants::{entry_number, part_name};
+use crate::constants::entry_number;
 use crate::last_arguments::applied_to_last;
 use crate::showing::{with_shown, written};
 use core_sig::Signature;
 use core_terms::{Items, Pat, Stop, Tele, Term, applied, copy_tele, head};
-use leaf_terms::{Plan, Recursion};
+use leaf_terms::{Plan, Recursion, part_name};
 use std::alloc::Global;
 
 /// The site of a clause of a part: a context and a goal there; terms for the variables of the part's telescope and for its columns; the

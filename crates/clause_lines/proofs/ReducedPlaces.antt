@@ -10,7 +10,7 @@ use Rattle.kernel_reduce.specs.Reduction.{most_variables, nesting}
 use Rattle.kernel_reduce.specs.WellScoped.{CanReduce}
 use Rattle.kernel_reduce.proofs.WellScoped.{scoped-more}
 use Rattle.unification.specs.ScopedStates.{IsReady}
-use Rattle.unifier.specs.Conditions.{most_levels}
+use Rattle.problems.specs.Conditions.{most_levels}
 use Rattle.clause_reports.specs.ProofWalks.{Place}
 use Rattle.clause_reports.specs.Stops.{Halts, answers, halting}
 use Rattle.proof_walks.specs.PlaceScopes.{IsKeptPlace, is_scoped}

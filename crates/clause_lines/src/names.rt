@@ -5,10 +5,9 @@ ghost use Rattle.core_terms.specs.Answers.{Gives};
 ghost use Rattle.leaf_terms.specs.PlanMeanings.{plan_of};
 ghost use Rattle.proof_walks.specs.proof_terms.CodeProofs as spec;
 
-use clause_equations::part_name;
 use core_terms::{Name, Stop, next};
 use core_text::write_number;
-use leaf_terms::Plan;
+use leaf_terms::{Plan, part_name};
 use std::alloc::Global;
 
 /// A part's name, a mark, and the number of a clause.

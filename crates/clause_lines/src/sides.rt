@@ -7,7 +7,7 @@ ghost use Rattle.core_terms.specs.Meanings.{tree_of};
 ghost use Rattle.drafts.specs.draft_entering.Stops.{Reports};
 ghost use Rattle.proof_walks.specs.PlaceScopes as scopes;
 ghost use Rattle.theory.specs.SignatureScopes.{IsScopedSignature};
-ghost use Rattle.unifier.specs.Conditions.{most_levels};
+ghost use Rattle.problems.specs.Conditions.{most_levels};
 
 use clause_equations::Equation;
 use core_sig::{Signature, is_scoped};

@@ -17,7 +17,7 @@ use Rattle.unification.specs.Built.{Built, built_of}
 use Rattle.case_trees.specs.Kept.{at_arguments}
 use Rattle.case_trees.specs.Points.{under_solution}
 use Rattle.tree_translation.specs.Mappings.{mapping, in_old_order}
-use Rattle.tree_translation.specs.Naming.{motive_name, step_name, helper_name}
+use Rattle.tree_translation.specs.Naming.{motive_name, part_named, step_name}
 use Rattle.clause_reports.specs.Generated.{all_name}
 use Rattle.tree_translation.specs.Plans.{Plan, Part, no_part, own_part}
 use Rattle.tree_translation.specs.Recursion.{Recursion, recursion_of, parameters_at, scrutinee_at, terms_at}
@@ -28,11 +28,6 @@ use Rattle.tree_translation.specs.RightSides.{is_helper}
 -- the number of the entry with a name
 abbrev pub number_of : Signature → (name : List ℕ) → ℕ
 number_of S name = option_map_or (λ n. n) (option_and_then entry_found (find S name)) 0
-
--- the name of part k: the function, or helper k
-abbrev pub part_named : (function : List ℕ) (k : ℕ) → List ℕ
-part_named function zero = function
-part_named function (suc k) = helper_name function (suc k)
 
 abbrev pub part_name : Plan → (k : ℕ) → List ℕ
 part_name plan k = part_named plan.name k

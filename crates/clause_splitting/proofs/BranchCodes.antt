@@ -17,7 +17,7 @@ use Rattle.core_terms.specs.declared.stop.Stop.TheVariants.{Deep}
 use Rattle.core_terms.proofs.Builders.{ok_is}
 use Rattle.unification.specs.Outcomes.{Outcome, Solved}
 use Rattle.unification.specs.ScopedStates.{IsReady}
-use Rattle.unifier.specs.Conditions.{most_levels}
+use Rattle.problems.specs.Conditions.{most_levels}
 use Rattle.case_trees.specs.Origins.{first_origins, origins_behind}
 use Rattle.case_trees.specs.Points.{Point, solution_for}
 use Rattle.case_trees.specs.Stops.{Stopping, Halts, or_halts, answers}

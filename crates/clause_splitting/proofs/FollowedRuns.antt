@@ -26,8 +26,8 @@ use Rattle.unification.proofs.ScopedEquations.{start-is, start-scoped}
 use Rattle.unification.proofs.SpentUnits.{any-answer}
 use Rattle.unification.proofs.TurnLaws.{turn-at}
 use Rattle.unification.proofs.TurnProperties.{IsRight}
-use Rattle.unifier.specs.Conditions.{most_levels}
-use Rattle.unifier.proofs.Rooms.{context-room}
+use Rattle.problems.specs.Conditions.{most_levels}
+use Rattle.problems.proofs.Rooms.{context-room}
 use Rattle.clause_splitting.specs.Following.{AreFollowed, IsSolvedBy}
 use Rattle.clause_splitting.proofs.LowTurns.{IsLowTurn, bounded-context, turn-low}
 

@@ -9,7 +9,7 @@ use Rattle.core_terms.specs.Meanings.{tree_of, tele_of}
 use Rattle.core_terms.specs.declared.stop.Stop.{Stop}
 use Rattle.core_terms.specs.declared.term.Term as code_term
 use Rattle.core_terms.proofs.Builders.{ok_is}
-use Rattle.unifier.specs.Conditions.{most_levels}
+use Rattle.problems.specs.Conditions.{most_levels}
 use Rattle.case_trees.specs.Pairs.{Pairs}
 use Rattle.case_trees.specs.Points.{bounded_point, bounded_pairs, moved_point, moved_pairs, point_keeping, solution_for}
 use Rattle.case_trees.specs.Stops.{or_halts, halting, answers}

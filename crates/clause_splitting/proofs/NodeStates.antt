@@ -6,7 +6,7 @@ use Rattle.theory.specs.Telescopes.{Telescope}
 use Rattle.theory.specs.Signatures.{Signature}
 use Rattle.core_terms.specs.Answers.{and_then}
 use Rattle.core_terms.specs.declared.stop.Stop.{Stop}
-use Rattle.unifier.specs.Conditions.{most_levels}
+use Rattle.problems.specs.Conditions.{most_levels}
 use Rattle.case_trees.specs.Keeping.{keep_all}
 use Rattle.case_trees.specs.Pairs.{Pairs, some_clashes}
 use Rattle.case_trees.specs.Points.{Point, bounded_point, bounded_pairs, moved_point, moved_pairs, point_keeping, solution_for, under_solution}

@@ -9,7 +9,7 @@ use Rattle.core_terms.specs.Clauses.{Clauses, Is}
 use Rattle.core_terms.specs.Meanings.{tree_of}
 use Rattle.core_terms.specs.declared.stop.Stop as code
 use Rattle.core_terms.proofs.Builders.{ok_is}
-use Rattle.unifier.specs.Conditions.{most_levels}
+use Rattle.problems.specs.Conditions.{most_levels}
 use Rattle.case_trees.specs.Laws.{IsGiven}
 use Rattle.case_trees.specs.Points as points
 use Rattle.case_trees.specs.Points.{bounded_point, start_at}

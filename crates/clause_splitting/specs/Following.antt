@@ -8,7 +8,7 @@ use Rattle.core_terms.specs.declared.case_tree.Rule.TheVariants.{SolveRight, Sol
 use Rattle.core_terms.specs.declared.case_tree.Origin.{Origin}
 use Rattle.core_terms.specs.declared.term.Term as code
 use Rattle.core_terms.specs.Meanings.{tele_of}
-use Rattle.unifier.specs.Conditions.{AreTypesOver, IsOver}
+use Rattle.problems.specs.Conditions.{AreTypesOver, IsOver}
 use Rattle.case_trees.specs.Origins.{context_without}
 
 -- a variable of a context whose numbers have room, and a term over the context that solves it

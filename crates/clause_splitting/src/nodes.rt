@@ -3,7 +3,7 @@ ghost use Rattle.core_terms.specs.Answers.{Gives};
 ghost use Rattle.core_terms.specs.Meanings.{tele_of};
 ghost use Rattle.core_terms.specs.PatternMeanings.{clauses_of};
 ghost use Rattle.unification.specs.ScopedStates.{IsReady};
-ghost use Rattle.unifier.specs.Conditions.{most_levels};
+ghost use Rattle.problems.specs.Conditions.{most_levels};
 ghost use Rattle.case_trees.specs.Points.{solution_for as solution_meant};
 ghost use Rattle.case_trees.specs.Trees as spec;
 ghost use Rattle.clause_walks.specs.Forgetting.{forget_live};

@@ -5,13 +5,14 @@ ghost use Rattle.core_terms.specs.TreeMeanings.{steps_of};
 ghost use Rattle.core_terms.specs.declared.case_tree.Origin.TheVariants as origin;
 ghost use Rattle.tele_eq.specs.Items.{each_position};
 ghost use Rattle.unification.specs.Occurrences as occurrences;
-ghost use Rattle.unifier.specs.Conditions.{AreBelow, AreTypesOver};
+ghost use Rattle.problems.specs.Conditions.{AreBelow, AreTypesOver};
 ghost use Rattle.case_trees.specs.Origins as spec;
 ghost use Rattle.clause_splitting.specs.Following.{AreFollowed, IsSolvedBy, traced, traced_of};
 
 use core_terms::{Items, Origin, Rule, Step, Stop, Tele, Term};
+use problems::Solution;
 use std::alloc::Global;
-use unifier::{Solution, dependants, new_context, new_order};
+use unifier::{dependants, new_context, new_order};
 
 /// The level of a variable by its number, in a context of `n` variables.
 fn level_in(n: u32, x: u32) -> u32

@@ -19,7 +19,7 @@ ghost use Rattle.clause_splitting.specs.Following.{AreFollowed};
 ghost use Rattle.clause_splitting.specs.NodeConditions.{IsNodeAt};
 ghost use Rattle.clause_splitting.specs.Growing as grown;
 ghost use Rattle.clause_splitting.specs.NodeMeanings.{all_live_of, node_of};
-ghost use Rattle.unifier.specs.Conditions.{most_levels};
+ghost use Rattle.problems.specs.Conditions.{most_levels};
 
 use crate::branches::{absurd_branch, solved_branch};
 use crate::nodes::{Node, all_live, next_node, patterns_left, worked};
@@ -27,8 +27,8 @@ use clause_walks::{Point, Ran, Reached, TreeStop, all_open, bound_terms, first_f
 use core_sig::Signature;
 use core_terms::{Branch, Clause, Items, Step, Stop, Tele, Term, Tree, Units, copy_tele};
 use kernel_check::Kernel;
+use problems::Outcome;
 use std::alloc::Global;
-use unifier::Outcome;
 
 /// How many variables a context may have; with more, memory is short.
 const MOST_LEVELS: usize = 2147400000;

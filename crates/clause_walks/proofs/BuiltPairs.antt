@@ -1,13 +1,8 @@
 -- A constructor pattern against a head form, as the code compares it.
-use Rattle.std.proofs.Common.{◌≡◌, ℕ, Bool, true, cond, Some, Result, Ok, Err, List, length, refl, sym, ap, ◌∙◌, subst}
+use Rattle.std.proofs.Common.{◌≡◌, ℕ, Bool, true, cond, Result, Ok, Err, List, length, sym, ap, ◌∙◌, subst}
 use Rattle.std.proofs.lemmas.List.{length-map}
-use Rattle.std.proofs.lemmas.List.Elements.{All-drop}
-use Rattle.std.specs.List.{All}
-use Rattle.theory.specs.Spines.{spine_of}
 use Rattle.theory.specs.Terms.{Term}
 use Rattle.theory.specs.Signatures.{Signature}
-use Rattle.theory.specs.SignatureScopes.{IsScoped}
-use Rattle.theory.proofs.ScopedTerms.{spine-scoped}
 use Rattle.core_terms.specs.Answers.{Spent, and_next}
 use Rattle.core_terms.specs.Meanings.{tree_of, tele_of}
 use Rattle.core_terms.specs.Patterns as pattern
@@ -16,30 +11,23 @@ use Rattle.core_terms.specs.declared.stop.Stop.{Stop}
 use Rattle.core_terms.specs.declared.term.Term as term
 use Rattle.kernel_reduce.specs.Reduction.{answered}
 use Rattle.unification.specs.Built.{built_of}
-use Rattle.unifier.specs.CodeBuilt.{IfThere, IsBuiltAs, split_of, teles_of}
-use Rattle.unifier.specs.declared.built.Built.{Built}
-use Rattle.unifier.proofs.BuiltCodes.{code-of, code-there, from_code, of-built, split-first, split-rest}
+use Rattle.problems.specs.CodeBuilt.{IfThere, IsBuiltAs, split_of, teles_of}
+use Rattle.problems.specs.declared.built.Built.{Built}
+use Rattle.problems.proofs.BuiltArguments.{built-whole}
+use Rattle.problems.proofs.BuiltCodes.{from_code, split-first, split-rest}
 use Rattle.case_trees.specs.pattern_vectors.Matching.{is_constructor}
 use Rattle.case_trees.specs.Pairs.{Pair, Pairs, Builds, Clashes}
 use Rattle.case_trees.specs.Working.{of_arguments, builds, compared, work_patterns}
 use Rattle.clause_walks.proofs.WorkingCodes.{refused-next, answered-next}
 
 module _ (S : Signature) (w : Term) (b : Built) (there : IfThere (IsBuiltAs b) (built_of S w)) where
-  whole : built_of S w ≡ Some (from_code b w)
-  whole = of-built S w b (code-of S w b there)
-
-  pub is-as : IsBuiltAs b (from_code b w)
-  is-as =
-      let found = code-there b (built_of S w) there in
-      record { n = refl; number = refl; family = refl; constructor = refl; kinds = found.2.kinds; there = found.2.there }
-
   module _ (n number : ℕ) (pats : Pats) (t : Term) where
     compared-there : (work : List Term → ℕ → Spent Pairs) (test : Bool) (left : ℕ) → is_constructor n number (from_code b w) ≡ test
         → compared n number pats t w work (built_of S w) left
         ≡ cond test (and_next (work (from_code b w).arguments left) (λ pairs rest. answered (Ok (builds (from_code b w) pairs)) rest))
         (answered (Ok (Clashes (pattern.Con n number pats) w)) left)
     compared-there work test left is =
-        ap (λ o. compared n number pats t w work o left) whole
+        ap (λ o. compared n number pats t w work o left) (built-whole S w b there)
         ∙ ap (λ test. cond test (and_next (work (from_code b w).arguments left) (λ pairs rest. answered (Ok (builds (from_code b w) pairs)) rest))
         (answered (Ok (Clashes (pattern.Con n number pats) w)) left)) is
 
@@ -73,9 +61,3 @@ module _ (S : Signature) (w : Term) (b : Built) (there : IfThere (IsBuiltAs b) (
           ∙ (answered-next (work (from_code b w).arguments left) (λ pairs rest. answered (Ok (builds (from_code b w) pairs)) rest) pairs end
           (subst (λ us. ◌≡◌ {A = Spent Pairs} (Ok pairs, end) (work us left)) arguments is)
           ∙ sym (compared-there work true left own))
-
--- the arguments of a scoped term
-pub arguments-scoped : (S : Signature) (n k : ℕ) (w : Term) (lists : List term.Term × List term.Term) → ◌≡◌ {A = Result (List Term × List Term) Stop} (Ok (teles_of lists)) (Ok (split_of k w))
-    → IsScoped S n w → All (IsScoped S n) (tele_of lists.1)
-arguments-scoped S n k w lists split h =
-    subst (All (IsScoped S n)) (sym (split-rest lists k k w split refl)) (All-drop (IsScoped S n) k (spine_of w) (spine-scoped S n w h))

@@ -13,12 +13,12 @@ use Rattle.core_terms.proofs.Builders.{ok_is}
 use Rattle.unification.specs.Built.{built_of}
 use Rattle.case_trees.specs.Keeping.{kept_over, keep_all}
 use Rattle.case_trees.specs.Pairs.{Pairs}
-use Rattle.unifier.specs.CodeBuilt.{IfThere, IsBuiltAs, split_of, teles_of}
-use Rattle.unifier.specs.Conditions.{AreLow}
-use Rattle.unifier.specs.declared.built.Built.{Built}
-use Rattle.unifier.proofs.BuiltCodes.{code-of, of-built, split-first, split-rest}
-use Rattle.unifier.proofs.CycleForms.{AreLower, spine-lower}
-use Rattle.unifier.proofs.LowTerms.{terms-low, low-drop}
+use Rattle.problems.specs.CodeBuilt.{IfThere, IsBuiltAs, split_of, teles_of}
+use Rattle.problems.specs.Conditions.{AreLow}
+use Rattle.problems.specs.declared.built.Built.{Built}
+use Rattle.problems.proofs.BuiltCodes.{code-of, of-built, split-first, split-rest}
+use Rattle.problems.proofs.CycleForms.{AreLower, spine-lower}
+use Rattle.problems.proofs.LowTerms.{terms-low, low-drop}
 
 lower-low : (h : ℕ) (us : List Term) → AreLower h us → h ≤ 2000 → AreLow us
 lower-low h [] lower low = tt

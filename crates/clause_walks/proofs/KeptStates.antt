@@ -25,7 +25,7 @@ use Rattle.case_trees.proofs.Arguments.{head-applied}
 use Rattle.case_trees.proofs.ScopedPoints.{built-parts, moved-scoped, all-under-scoped}
 use Rattle.case_trees.proofs.ScopedWorking.{applied-parts, waiting-scoped}
 use Rattle.case_trees.proofs.Shapes.{terms-moved}
-use Rattle.unifier.specs.Conditions.{most_levels}
+use Rattle.problems.specs.Conditions.{most_levels}
 use Rattle.clause_walks.specs.Forgetting.{forget, forget_all}
 use Rattle.clause_walks.specs.PairConditions.{AreKeptPairs, IsSolvedIn}
 use Rattle.clause_walks.specs.PointConditions.{is_low_point, IsKeptPoint}

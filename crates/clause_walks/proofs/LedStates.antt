@@ -9,7 +9,7 @@ use Rattle.case_trees.specs.Keeping.{keep_all}
 use Rattle.case_trees.specs.Pairs.{Pairs, waiting}
 use Rattle.case_trees.specs.Points.{Point, bounded_point, bounded_pairs, start_at, moved_point, moved_pairs, solution_for, point_keeping}
 use Rattle.case_trees.specs.Scoped.{IsScopedPoint}
-use Rattle.unifier.specs.Conditions.{most_levels}
+use Rattle.problems.specs.Conditions.{most_levels}
 use Rattle.clause_walks.specs.Forgetting.{CoverAll, forget_all}
 use Rattle.clause_walks.specs.PairConditions.{AreKeptPairs, IsSolvedIn, IsWalkState}
 use Rattle.clause_walks.specs.PointConditions.{IsKeptPoint}

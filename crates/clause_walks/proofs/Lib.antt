@@ -12,9 +12,7 @@ pub mod KeptStates
 pub mod LedStates
 pub mod LookCodes
 pub mod LowWorking
-pub mod Members
 pub mod MovedPairs
-pub mod ProblemCodes
 pub mod ReachScopes
 pub mod NextCodes
 pub mod Reaches

@@ -18,7 +18,7 @@ use Rattle.kernel_reduce.specs.Laws.{IsHeadForm}
 use Rattle.kernel_reduce.specs.Reduction.{most_variables}
 use Rattle.kernel_reduce.specs.WellScoped.{CanReduce}
 use Rattle.unification.specs.ScopedStates.{IsReady}
-use Rattle.unifier.specs.Conditions.{IsGiven, most_levels}
+use Rattle.problems.specs.Conditions.{IsGiven, most_levels}
 use Rattle.case_trees.specs.Problems.{type_of_variable}
 use Rattle.case_trees.specs.Looking.{first_found}
 use Rattle.case_trees.specs.Pairs.{or_later}
@@ -26,7 +26,7 @@ use Rattle.case_trees.specs.Stops as pure
 use Rattle.case_trees.specs.Stops.{Stopping}
 use Rattle.case_trees.proofs.Looks.{AllPairs}
 use Rattle.case_trees.proofs.ScopedProblems.{type_of-scoped}
-use Rattle.clause_walks.specs.LookConditions.{IsContext}
+use Rattle.problems.specs.MemberConditions.{IsContext}
 use Rattle.clause_walks.specs.LookMeanings.{reached_of}
 use Rattle.clause_walks.specs.OpenPairs.{AreScopedOpen, open_of, all_open_of}
 use Rattle.clause_walks.specs.ReachedRuns.{IsReached}

@@ -1,5 +1,5 @@
 -- How the code runs the problems of constructors.
-use Rattle.std.proofs.Common.{◌≡◌, ℕ, zero, suc, ◌+◌, ◌-◌, ◌≤◌, ◌<◌, Some, option_map, slice_get, Result, Ok, Err, List, [], ◌∷◌, ◌++◌, length, map, take, drop, get_or, refl, sym, ap, ap₂, ◌∙◌, subst as transport, arith}
+use Rattle.std.proofs.Common.{◌≡◌, ℕ, zero, suc, ◌+◌, ◌-◌, ◌<◌, Some, option_map, slice_get, Result, Ok, Err, List, [], ◌∷◌, ◌++◌, length, map, take, drop, refl, sym, ap, ap₂, ◌∙◌, subst as transport, arith}
 use Rattle.std.proofs.lemmas.List.{length-map, map-append}
 use Rattle.std.proofs.lemmas.Option.{slice_get-map}
 use Rattle.theory.specs.Telescopes.{Telescope}
@@ -12,14 +12,14 @@ use Rattle.unification.specs.Outcomes.{Outcome}
 use Rattle.unification.specs.Runs.{unify_of}
 use Rattle.unification.specs.ScopedStates.{IsScopedProblem}
 use Rattle.unification.specs.States as pure
-use Rattle.unifier.proofs.LowTerms.{slice-from}
 use Rattle.case_trees.specs.Problems.{Member, problem_of}
 use Rattle.case_trees.specs.Stops.{Halts, Stopping}
 use Rattle.case_trees.specs.Looking.{Look, Passed, Looked, StuckRun, run_all}
 use Rattle.clause_walks.specs.LookMeanings.{ran_of, ends_of}
-use Rattle.clause_walks.specs.Reaching.{RunEnd, problem_made, run_end, run_one, sorted, ends_behind, run_wanted}
-use Rattle.clause_walks.specs.LookConditions.{AreFrom}
-use Rattle.clause_walks.specs.declared.problems.Member as code
+use Rattle.clause_walks.specs.Reaching.{RunEnd, run_end, run_one, sorted, ends_behind, run_wanted}
+use Rattle.problems.specs.ProblemsMade.{problem_made}
+use Rattle.problems.specs.MemberConditions.{AreFrom}
+use Rattle.problems.specs.declared.members.Member as code
 use Rattle.clause_walks.specs.declared.running.Ran.{Ran}
 use Rattle.clause_walks.proofs.DeepProblems.{one-deep, one-ends}
 use Rattle.clause_walks.proofs.RunSteps.{run_on, run-goes, run-refused}
@@ -40,11 +40,6 @@ module _ (S : Signature) (context : Telescope) (x : ℕ) (m : Member) (number p 
       ∙ one-ends S context x m number (constructor_of p con) q left mid o made run
 
 -- ---- runs after one another
-
--- a slice that has a first item
-pub first-item : {A : Type 0} (xs : List A) (x : A) → 1 ≤ length xs → x ≡ get_or xs 0 x → xs ≡ x ∷ take (length xs - 1) (drop 1 xs)
-first-item [] x le e = absurd (omega arith)
-first-item (y ∷ xs) x le e = ap₂ (λ z zs. z ∷ zs) (sym e) (sym (slice-from 1 (y ∷ xs)))
 
 module _ (S : Signature) (context : Telescope) (x : ℕ) (m : Member) (number p : ℕ) (cons rest : List Constructor) (con : Constructor) (made : List Ran)
     (left mid : ℕ) (split : cons ≡ con ∷ rest) where

@@ -9,12 +9,12 @@ use Rattle.core_terms.specs.Answers.{and_then, are_low}
 use Rattle.core_terms.specs.declared.stop.Stop.{Stop}
 use Rattle.core_terms.specs.declared.stop.Stop.TheVariants.{Deep}
 use Rattle.case_trees.specs.OwnWalks as walk
-use Rattle.case_trees.specs.OwnWalks.{Turn, or_none, solved_pairs}
+use Rattle.case_trees.specs.OwnWalks.{or_none, solved_pairs}
 use Rattle.case_trees.specs.Pairs.{Pair, Pairs, Waits, Binds, Passes, Keeps, Builds, Clashes, nil, cons, all_bound, is_low_pair, are_low_pairs}
 use Rattle.case_trees.specs.Points.{Point, bounded_point, moved_point, moved_pairs, solution_for}
 use Rattle.case_trees.specs.Stops.{or_halts}
 use Rattle.case_trees.proofs.ScopedWalks.{all-bound-scoped}
-use Rattle.unifier.specs.Conditions.{most_levels}
+use Rattle.problems.specs.Conditions.{most_levels}
 use Rattle.clause_walks.specs.CodeWalks.{GoesOn, next_of, solved_next}
 use Rattle.clause_walks.specs.Forgetting.{forget, forget_all}
 use Rattle.clause_walks.specs.PairConditions.{AreKeptPairs}

@@ -8,7 +8,7 @@ use Rattle.core_terms.specs.Patterns.{Pat}
 use Rattle.case_trees.specs.Pairs.{Pair, Pairs, Waits, Binds, Passes, Keeps, Builds, Clashes, nil, cons, or_later, clash_in, first_clash, all_open, is_low_pair, are_low_pairs}
 use Rattle.case_trees.proofs.Looks.{AllPairs}
 use Rattle.case_trees.proofs.WalkStanding.{all-open-scoped}
-use Rattle.unifier.proofs.LowTerms.{and-parts, low-height}
+use Rattle.problems.proofs.LowTerms.{and-parts, low-height}
 use Rattle.clause_walks.specs.OpenPairs.{AreScopedOpen}
 use Rattle.clause_walks.specs.PairConditions.{AreKeptPairs}
 

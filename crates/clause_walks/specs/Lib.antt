@@ -3,7 +3,6 @@ pub mod CodeDots
 pub mod CodeWalks
 pub mod CodeWorking
 pub mod Forgetting
-pub mod LookConditions
 pub mod LookMeanings
 pub mod Meanings
 pub mod MovedPairs

@@ -3,13 +3,12 @@ use Rattle.std.specs.Prelude.{ℕ, List, map, Result, Ok, Err}
 use Rattle.theory.specs.Telescopes.{Telescope}
 use Rattle.core_terms.specs.Meanings.{tree_of, tele_of}
 use Rattle.core_terms.specs.PatternMeanings.{pat_of}
-use Rattle.core_sig.specs.Meanings.{family_of}
-use Rattle.unifier.specs.Meanings.{outcome_of}
+use Rattle.problems.specs.Meanings.{outcome_of}
 use Rattle.case_trees.specs.Problems as problems
 use Rattle.case_trees.specs.Looking as looking
 use Rattle.case_trees.specs.Stops as stops
+use Rattle.problems.specs.MemberMeanings.{member_meant}
 use Rattle.clause_walks.specs.Reaching as pure
-use Rattle.clause_walks.specs.declared.problems.Member.{Member}
 use Rattle.clause_walks.specs.declared.running.Ran.{Ran}
 use Rattle.clause_walks.specs.declared.running.StuckRun.{StuckRun}
 use Rattle.clause_walks.specs.declared.running.Runs.{Runs}
@@ -21,14 +20,6 @@ use Rattle.clause_walks.specs.declared.reaching.Reach.TheVariants as reach
 use Rattle.clause_walks.specs.declared.looking.Arrival.{Arrival}
 use Rattle.clause_walks.specs.declared.looking.Arrival.TheVariants as arrival
 use Rattle.clause_walks.specs.declared.looking.Unmatched.{Unmatched}
-
-abbrev pub member_meant : Member → problems.Member
-member_meant m = record {
-  n = m.number;
-  family = family_of m.family.now;
-  parameters = tele_of m.params;
-  indices = tele_of m.indices;
-}
 
 abbrev pub looked_of : Looked → looking.Looked
 looked_of l = record { type = tree_of l.ty; member = member_meant l.member }

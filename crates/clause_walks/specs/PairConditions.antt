@@ -5,7 +5,7 @@ use Rattle.theory.specs.Telescopes.{Telescope}
 use Rattle.theory.specs.Signatures.{Signature}
 use Rattle.theory.specs.SignatureScopes.{IsScoped, IsScopedTelescope}
 use Rattle.unification.specs.Outcomes.{Outcome, Solved}
-use Rattle.unifier.specs.Conditions.{most_levels}
+use Rattle.problems.specs.Conditions.{most_levels}
 use Rattle.case_trees.specs.Pairs.{Pairs, terms_in, are_low_pairs}
 use Rattle.case_trees.specs.Points.{Point}
 use Rattle.clause_walks.specs.CodeWalks.{Next, GoesOn, Ended}

@@ -4,7 +4,7 @@ use Rattle.std.specs.Prelude.{◌≡◌, ◌≤◌, ◌&&◌, Bool, ℕ, List, l
 use Rattle.theory.specs.Terms.{Term, free_of}
 use Rattle.theory.specs.Signatures.{Signature}
 use Rattle.core_terms.specs.Answers.{is_low, are_low}
-use Rattle.unifier.specs.Conditions.{most_levels}
+use Rattle.problems.specs.Conditions.{most_levels}
 use Rattle.case_trees.specs.Points.{Point, bounded_point}
 use Rattle.case_trees.specs.Scoped.{IsScopedPoint}
 

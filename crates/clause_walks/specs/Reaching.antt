@@ -1,21 +1,16 @@
 -- The code's search among open pairs: for the first that has a variable at which no run is stuck, with the ends of its runs. A walk wants
 -- the run of the pattern's own constructor, and a tree those of all constructors.
 use Rattle.std.specs.Prelude.{ℕ, ◌+◌, ◌==◌, Bool, true, Option, Some, None, List, [], ◌∷◌, ◌++◌, length, map, slice_get, Result, Ok, Err}
-use Rattle.theory.specs.Terms.{Term, Var}
+use Rattle.theory.specs.Terms.{Term}
 use Rattle.theory.specs.Telescopes.{Telescope}
 use Rattle.theory.specs.Families.{Constructor}
 use Rattle.theory.specs.Signatures.{Signature}
-use Rattle.core_terms.specs.Answers.{Spent, and_next, and_then, bounded_terms}
+use Rattle.core_terms.specs.Answers.{Spent, and_next}
 use Rattle.core_terms.specs.Patterns as pattern
 use Rattle.core_terms.specs.Patterns.{Pat}
-use Rattle.core_terms.specs.declared.stop.Stop.{Stop}
 use Rattle.kernel_reduce.specs.Reduction.{answered}
 use Rattle.kernel_reduce.specs.Tidying.{tidy_of}
-use Rattle.tele_eq.specs.Items.{Item}
-use Rattle.unification.specs.Heights.{bounded_items}
-use Rattle.unification.specs.Injecting.{lifted}
 use Rattle.unification.specs.Outcomes.{Outcome, Stuck}
-use Rattle.unification.specs.Records.{argument_items, family_items, constructor_terms}
 use Rattle.unification.specs.Runs.{unify_of}
 use Rattle.unification.specs.Solutions.{variable_in}
 use Rattle.unification.specs.States.{Problem}
@@ -24,24 +19,6 @@ use Rattle.case_trees.specs.Stops as stop
 use Rattle.case_trees.specs.Stops.{TreeStop, Stopping, halting, answers}
 use Rattle.case_trees.specs.Trees.{SplitAt}
 use Rattle.case_trees.specs.Looking.{Look, Found, Passed, Looked, StuckRun, Ran, stuck_at, look_at_type, run_all}
-
--- ---- the problem of a constructor
-
--- the problem itself, or Deep where a part of the family's record in it is too high
-abbrev pub problem_made : Telescope → (x : ℕ) → Member → (number : ℕ) → Constructor → Result Problem Stop
-problem_made context x m number c =
-    and_then (bounded_items (argument_items m.n m.parameters c)) (λ arguments.
-    and_then (bounded_items (family_items m.n m.family (lifted (length c.arguments) m.parameters))) (λ telescope.
-    and_then (bounded_terms (constructor_terms m.n number m.parameters c)) (λ left. Ok (problem_of context x m number c))))
-
--- the problem of its parts
-abbrev pub problem_of_parts : Telescope → (x count : ℕ) → (indices : List Term) → (arguments telescope : List Item) → (left : List Term) → Problem
-problem_of_parts context x count indices arguments telescope left = record {
-  context = context ++ map (λ item. item.type) arguments;
-  telescope = telescope;
-  left = left;
-  right = lifted count indices ++ Var (x + count) ∷ [];
-}
 
 -- ---- ends of runs
 

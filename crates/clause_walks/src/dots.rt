@@ -10,7 +10,7 @@ ghost use Rattle.clause_walks.specs.Parts.{forced_of, all_forced};
 ghost use Rattle.clause_walks.specs.PointConditions.{AreOverSo};
 ghost use Rattle.clause_walks.specs.PointMeanings.{point_of};
 ghost use Rattle.tele_eq.specs.Dependences as dependences;
-ghost use Rattle.unifier.specs.Conditions.{most_levels};
+ghost use Rattle.problems.specs.Conditions.{most_levels};
 
 use crate::parts::{Forced, all_bound, all_dots};
 use crate::{Pair, Point};

@@ -4,21 +4,20 @@ ghost use Rattle.core_terms.specs.Meanings.{tree_of, tele_of};
 ghost use Rattle.case_trees.specs.Keeping as spec;
 ghost use Rattle.case_trees.specs.Points.{point_keeping as point_kept};
 ghost use Rattle.clause_walks.specs.Meanings.{pair_of, pairs_of};
-ghost use Rattle.clause_walks.specs.PointConditions.{is_low_point};
 ghost use Rattle.clause_walks.specs.PointMeanings.{point_of};
 ghost use Rattle.theory.specs.Terms as tree;
 ghost use Rattle.core_terms.specs.Bounds.{most_height};
 ghost use Rattle.unification.specs.Built as built;
-ghost use Rattle.unifier.specs.CodeBuilt.{IfThere, IsBuiltAs};
-ghost use Rattle.unifier.specs.Conditions.{most_levels};
+ghost use Rattle.problems.specs.CodeBuilt.{IfThere, IsBuiltAs};
+ghost use Rattle.problems.specs.Conditions.{most_levels};
 
 use crate::parts::term_in;
 use crate::points::bounded_point;
 use crate::{Pair, Point};
 use core_sig::Signature;
 use core_terms::{Items, Stop, Tele, Term, applied, copy_whole};
+use problems::{Built, built_of, split_spine};
 use std::alloc::Global;
-use unifier::{Built, built_of, split_spine};
 
 /// The shared term with the head form that a pair was compared with. Nothing tests its height.
 #[cycle(keeping)]

@@ -8,7 +8,7 @@ ghost use Rattle.unification.specs.ScopedStates.{IsReady};
 ghost use Rattle.case_trees.specs.Looking as looking;
 ghost use Rattle.unification.specs.Solutions.{variable_in as variable_meant};
 ghost use Rattle.case_trees.specs.Pairs as pairs_spec;
-ghost use Rattle.clause_walks.specs.LookConditions.{IsContext};
+ghost use Rattle.problems.specs.MemberConditions.{IsContext};
 ghost use Rattle.clause_walks.specs.LookMeanings.{arrival_of, reached_of, stuck_stop, unmatched_stop};
 ghost use Rattle.clause_walks.specs.OpenPairs.{AreScopedOpen, all_open_of};
 ghost use Rattle.clause_walks.specs.ReachedRuns.{IsReached};
@@ -22,8 +22,8 @@ use crate::stops::TreeStop;
 use core_sig::Signature;
 use core_terms::{Pat, Stop, Term, copy_pat, copy_tele};
 use kernel_check::Kernel;
+use problems::variable_in;
 use std::alloc::Global;
-use unifier::variable_in;
 
 /// A pattern that asks for a constructor, with a term that is neither one nor a variable.
 #[derive(Debug, Drop)]

@@ -6,7 +6,7 @@ ghost use Rattle.clause_walks.specs.Forgetting.{forget_all};
 ghost use Rattle.clause_walks.specs.Meanings.{pair_of, pairs_of};
 ghost use Rattle.clause_walks.specs.MovedPairs as behind;
 ghost use Rattle.clause_walks.specs.PointConditions.{AreOverSo};
-ghost use Rattle.unifier.specs.Conditions.{most_levels};
+ghost use Rattle.problems.specs.Conditions.{most_levels};
 
 use crate::Pair;
 use crate::pairs::{binds_with, clashes_with, keeps_with, waits_with};

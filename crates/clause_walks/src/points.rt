@@ -4,12 +4,12 @@ ghost use Rattle.core_terms.specs.Meanings.{tree_of, tele_of};
 ghost use Rattle.case_trees.specs.Points as spec;
 ghost use Rattle.clause_walks.specs.PointConditions.{AreOverSo, is_low_point as is_low_meant};
 ghost use Rattle.clause_walks.specs.PointMeanings.{point_of};
-ghost use Rattle.unifier.specs.Conditions.{most_levels};
+ghost use Rattle.problems.specs.Conditions.{most_levels};
 
 use core_terms::{MAX_HEIGHT, Stop, Tele, Term, copy_tele, copy_whole, inst, inst_terms};
+use problems::are_low;
 use std::alloc::Global;
 use tele_eq::variables;
-use unifier::are_low;
 
 /// How many variables a context may have; with more, memory is short.
 pub(crate) const MOST_LEVELS: usize = 2147400000;

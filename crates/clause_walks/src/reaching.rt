@@ -4,20 +4,21 @@ ghost use Rattle.core_terms.specs.Meanings.{tree_of, tele_of};
 ghost use Rattle.core_terms.specs.PatternMeanings.{pat_of};
 ghost use Rattle.kernel_reduce.specs.Reduction.{whnf_of};
 ghost use Rattle.unification.specs.ScopedStates.{IsReady};
-ghost use Rattle.unifier.specs.Conditions.{IsGiven};
+ghost use Rattle.problems.specs.Conditions.{IsGiven};
 ghost use Rattle.case_trees.specs.Looking as looking;
 ghost use Rattle.case_trees.specs.Problems.{member_of as member_meant_of, type_of_variable as type_meant};
-ghost use Rattle.clause_walks.specs.LookConditions.{IsContext, IsMember};
-ghost use Rattle.clause_walks.specs.LookMeanings.{looked_of, member_meant, reach_of, runs_of};
+ghost use Rattle.problems.specs.MemberConditions.{IsContext, IsMember};
+ghost use Rattle.clause_walks.specs.LookMeanings.{looked_of, reach_of, runs_of};
+ghost use Rattle.problems.specs.MemberMeanings.{member_meant};
 ghost use Rattle.clause_walks.specs.Reaching as spec;
 ghost use Rattle.clause_walks.specs.Stops.{Tells, Yields};
 
-use crate::problems::{Member, member_of, type_of_variable};
 use crate::running::{Ran, Runs, StuckRun, run_from};
 use crate::stops::TreeStop;
 use core_sig::Signature;
 use core_terms::{Items, Pat, Stop, Term, copy_tele, copy_whole};
 use kernel_check::Kernel;
+use problems::{Member, member_of, type_of_variable};
 use std::alloc::Global;
 
 /// The reduced type of a variable, and the family that it is.

@@ -4,21 +4,22 @@ ghost use Rattle.core_terms.specs.Bounds.{most_height};
 ghost use Rattle.core_terms.specs.Meanings.{tele_of};
 ghost use Rattle.core_sig.specs.Meanings.{constructor_of};
 ghost use Rattle.unification.specs.ScopedStates.{IsReady};
-ghost use Rattle.unifier.specs.Meanings.{outcome_of, problem_of as problem_meant};
+ghost use Rattle.problems.specs.Meanings.{outcome_of, problem_of as problem_meant};
 ghost use Rattle.case_trees.specs.Looking as looking;
-ghost use Rattle.clause_walks.specs.LookConditions.{AreFrom, IsContext, IsMember};
-ghost use Rattle.clause_walks.specs.LookMeanings.{ends_of, member_meant, ran_of, runs_of, sorted_as};
+ghost use Rattle.problems.specs.MemberConditions.{AreFrom, IsContext, IsMember};
+ghost use Rattle.clause_walks.specs.LookMeanings.{ends_of, ran_of, runs_of, sorted_as};
+ghost use Rattle.problems.specs.MemberMeanings.{member_meant};
 ghost use Rattle.clause_walks.specs.Reaching as spec;
 ghost use Rattle.clause_walks.specs.Stops.{Yields};
 
-use crate::problems::{Member, problem_of};
 use crate::stops::TreeStop;
 use core_sig::{Constructor, Signature};
 use core_terms::{Items, Stop, Tele, Term};
 use kernel_check::Kernel;
+use problems::{Member, Outcome, Problem, problem_of};
 use std::alloc::Global;
 use unification::Why;
-use unifier::{Outcome, Problem, unify_with};
+use unifier::unify_with;
 
 /// The end of the run of a constructor's problem: how many arguments the constructor has, the context of the problem, and the
 /// outcome.

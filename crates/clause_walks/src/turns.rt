@@ -10,8 +10,8 @@ ghost use Rattle.theory.specs.Terms as tree;
 ghost use Rattle.core_terms.specs.Bounds.{most_height};
 ghost use Rattle.unification.specs.Built.{built_of as built_meant};
 ghost use Rattle.unification.specs.ScopedStates.{IsReady};
-ghost use Rattle.unifier.specs.Conditions.{most_levels};
-ghost use Rattle.unifier.specs.Meanings.{outcome_of};
+ghost use Rattle.problems.specs.Conditions.{most_levels};
+ghost use Rattle.problems.specs.Meanings.{outcome_of};
 ghost use Rattle.clause_walks.specs.CodeWalks as code;
 ghost use Rattle.clause_walks.specs.Forgetting.{CoverAll};
 ghost use Rattle.clause_walks.specs.ReachedRuns.{IsReached};
@@ -36,8 +36,8 @@ use crate::{Pair, Point, TreeStop};
 use core_sig::Signature;
 use core_terms::{Items, Pat, Stop, Tele, Term, Walk, copy_tele, copy_whole};
 use kernel_check::Kernel;
+use problems::{Outcome, built_of};
 use std::alloc::Global;
-use unifier::{Outcome, built_of};
 
 /// The result of a turn: the walk goes on in a new state, or has ended.
 #[derive(Debug, Drop)]

@@ -6,7 +6,7 @@ ghost use Rattle.case_trees.specs.Laws.{IsGiven};
 ghost use Rattle.case_trees.specs.OwnWalks as spec;
 ghost use Rattle.case_trees.specs.Scoped.{IsClauseOf, IsScopedStop, IsScopedWalk};
 ghost use Rattle.unification.specs.ScopedStates.{IsReady};
-ghost use Rattle.unifier.specs.Conditions.{most_levels};
+ghost use Rattle.problems.specs.Conditions.{most_levels};
 ghost use Rattle.clause_walks.specs.Meanings.{pairs_of};
 ghost use Rattle.clause_walks.specs.PairConditions.{IsWalkState};
 ghost use Rattle.clause_walks.specs.PointMeanings.{point_of};

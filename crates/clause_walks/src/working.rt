@@ -9,8 +9,8 @@ ghost use Rattle.theory.specs.Terms as tree;
 ghost use Rattle.core_terms.specs.Bounds.{most_height};
 ghost use Rattle.unification.specs.Built as built;
 ghost use Rattle.unification.specs.ScopedStates.{IsReady};
-ghost use Rattle.unifier.specs.CodeBuilt.{IfThere, IsBuiltAs};
-ghost use Rattle.unifier.specs.Conditions.{most_levels};
+ghost use Rattle.problems.specs.CodeBuilt.{IfThere, IsBuiltAs};
+ghost use Rattle.problems.specs.Conditions.{most_levels};
 ghost use Rattle.case_trees.specs.pattern_vectors.Matching.{is_constructor};
 ghost use Rattle.case_trees.specs.Pairs.{term_in, terms_in, waiting as waiting_meant};
 ghost use Rattle.case_trees.specs.Working as spec;
@@ -26,8 +26,8 @@ use crate::pairs::{
 use core_sig::Signature;
 use core_terms::{Items, MAX_HEIGHT, Pat, Stop, Term, copy_whole};
 use kernel_check::Kernel;
+use problems::{Built, built_of, split_spine};
 use std::alloc::Global;
-use unifier::{Built, built_of, split_spine};
 
 /// How high a term may be by the number of the terms from it on: one of a column, or an argument of a constructor that may be so
 /// high itself.

@@ -14,17 +14,17 @@ use Rattle.function_session.specs.Elaborating.{Elaborated, elaborate_of}
 use Rattle.function_session.specs.Laws.{KeepsReady, IsAsWritten}
 use Rattle.function_session.proofs.Keeping.{elaborate-ready}
 use Rattle.function_session.proofs.Written.{elaborates-written}
-use Rattle.elim_program.specs.ClauseTexts.{clause_line, leaf_line, leaf_lines, with_leaves, clause_lines}
+use Rattle.program_texts.specs.ClauseTexts.{clause_line, leaf_line, leaf_lines, with_leaves, clause_lines}
 use Rattle.elim_program.specs.declared.counts.Counts.{Counts}
-use Rattle.elim_program.specs.declared.words.Command.{Command}
-use Rattle.elim_program.specs.declared.words.Work.{Work}
+use Rattle.program_texts.specs.declared.words.Command.{Command}
+use Rattle.program_texts.specs.declared.words.Work.{Work}
 use Rattle.elim_program.specs.Acceptance.{Accepts, end, next, own_lines, IsAccepted}
 use Rattle.elim_program.specs.Headline.{core_lines, Shows, none, more}
 use Rattle.elim_program.specs.DefinedOutputs.{IsOutput, refused_words, compiles, verifies, works}
 use Rattle.elim_program.specs.Outputs.{Output, accepted_line, accepted_lines, lines_after, declared_name, declared_block, after, followed, declarations, text_block, head_lines}
-use Rattle.elim_program.specs.Refusals.{candidate_lines, candidate_of, refusal_line, refused_lines, stop_line}
-use Rattle.elim_program.specs.Texts.{Answer, Gives, limited}
-use Rattle.elim_program.specs.Words.{asked}
+use Rattle.program_texts.specs.Refusals.{candidate_lines, candidate_of, refusal_line, refused_lines, stop_line}
+use Rattle.program_texts.specs.Texts.{Answer, Gives, limited}
+use Rattle.program_texts.specs.Words.{asked}
 use Rattle.elim_program.specs.WorkTexts.{summary_line}
 use Rattle.elim_program.specs.Works.{none_counted, on_worked, with_accepted, work_block, worked, worked_block}
 use Rattle.elim_program.proofs.Lines.{entries-core, core-lines-core, core-lines-append, third, not_empty, not_one, after_heads, IsOther, AreOther, core-other, both-other, none_accepted, AreNotes, both-notes, core-lines-notes, Found, here, later_on, find, if_ok}

@@ -16,13 +16,13 @@ use Rattle.elab_session.specs.declared.refusal.Refusal.{Refusal}
 use Rattle.elab_session.proofs.Written.{declares-written}
 use Rattle.function_session.specs.Elaborating.{Elaborated, without_lines, on_lines, enter_function, on_function, elaborate_of}
 use Rattle.function_session.specs.Refusals.{refused_function}
-use Rattle.elim_program.proofs.EnteredNames.{IsIn, if-ok}
+use Rattle.program_texts.proofs.EnteredNames.{IsIn, if-ok}
 use Rattle.elim_program.proofs.FunctionInLine.{LinesIn, function-written}
 use Rattle.elim_program.proofs.FunctionTexts.{RefusalIn, ClauseIn}
-use Rattle.elim_program.proofs.FunctionWords.{NameIn, function-in}
-use Rattle.elim_program.proofs.GrammarInLine.{WordIn, DeclInLine}
-use Rattle.elim_program.proofs.SessionInLine.{NamesIn, TextIn, RefusesIn, AcceptedIn, Resolves, stopped-in, unresolved-in, refused-in, accepted-in}
-use Rattle.elim_program.proofs.TokensInLine.{Each}
+use Rattle.program_texts.proofs.FunctionWords.{NameIn, function-in}
+use Rattle.program_texts.proofs.GrammarInLine.{WordIn, DeclInLine}
+use Rattle.program_texts.proofs.SessionInLine.{NamesIn, TextIn, RefusesIn, AcceptedIn, Resolves, stopped-in, unresolved-in, refused-in, accepted-in}
+use Rattle.program_texts.proofs.TokensInLine.{Each}
 
 pub record ElaboratedIn (a : Elaborated) : Type 0 where
   pub name : IsIn a.name

@@ -17,12 +17,12 @@ use Rattle.core_text.proofs.ScopedOver.{scoped-term, scoped-types, scoped-constr
 use Rattle.family_check.specs.Families.{family_without}
 use Rattle.family_check.specs.Scopes.{IsScopedRaw}
 use Rattle.elab_session.specs.Entering.{CanEnter, enter_of}
-use Rattle.elim_program.specs.declared.status.Status.{Status}
-use Rattle.elim_program.specs.declared.text_stop.TextStop.{TextStop}
+use Rattle.program_texts.specs.declared.status.Status.{Status}
+use Rattle.program_texts.specs.declared.text_stop.TextStop.{TextStop}
 use Rattle.elim_program.specs.Outputs.{Block, block, followed}
-use Rattle.elim_program.specs.Refusals.{stop_line}
-use Rattle.elim_program.specs.Texts.{is_memory}
-use Rattle.elim_program.specs.Verifies.{BoundIsEnough, after_entry, after_head, entries, next_block, read_block, unread, unread_block}
+use Rattle.program_texts.specs.Refusals.{stop_line}
+use Rattle.program_texts.specs.Texts.{is_memory, unread}
+use Rattle.elim_program.specs.Verifies.{BoundIsEnough, after_entry, after_head, entries, next_block, read_block, unread_block}
 use Rattle.elim_program.proofs.Following.{IsWriting, Writes, writing, written_all, written_last, written_one, written_part, written_rest}
 
 -- An entry that is read may be added to the signature.

@@ -15,17 +15,18 @@ use Rattle.elab_session.specs.Adding.{Adds, family, eliminator, axiom_k, definit
 use Rattle.elab_session.specs.Entering.{answered, checked, enter_of, refused}
 use Rattle.elab_session.specs.declared.refusal.Refusal.{Refusal}
 use Rattle.elab_session.proofs.Adding.{enter-adds}
-use Rattle.elim_program.specs.declared.text_stop.TextStop.{TextStop}
-use Rattle.elim_program.specs.declared.text_stop.TextStop.TheVariants as stop
-use Rattle.elim_program.specs.declared.words.Command.{Command}
+use Rattle.program_texts.specs.declared.text_stop.TextStop.{TextStop}
+use Rattle.program_texts.specs.declared.text_stop.TextStop.TheVariants as stop
+use Rattle.program_texts.specs.declared.words.Command.{Command}
 use Rattle.elim_program.specs.Outputs.{accepted_line, compiled, followed}
-use Rattle.elim_program.specs.Refusals.{refusal_line, stop_line}
-use Rattle.elim_program.specs.Verifies.{after_entry, after_head, entries, entry_block, file_block, next_block, read_name, unread, verified_line}
+use Rattle.program_texts.specs.Refusals.{refusal_line, stop_line}
+use Rattle.elim_program.specs.Verifies.{after_entry, after_head, entries, entry_block, file_block, next_block, read_name, verified_line}
+use Rattle.program_texts.specs.Texts.{unread}
 use Rattle.elim_program.proofs.Lines.{third, first_line, not_empty, after_heads, if_ok}
-use Rattle.elim_program.proofs.ReadInLine.{IsRead, is-read}
-use Rattle.elim_program.proofs.RefusalsInLine.{refusal-in, stop-in}
-use Rattle.elim_program.proofs.SessionInLine.{EntryNamesIn, NamesIn, TextIn, each-last, entry-refused-in, prelude-in, term-in}
-use Rattle.elim_program.proofs.TokensInLine.{Each}
+use Rattle.program_texts.proofs.ReadInLine.{IsRead, is-read}
+use Rattle.program_texts.proofs.RefusalsInLine.{refusal-in, stop-in}
+use Rattle.program_texts.proofs.SessionInLine.{EntryNamesIn, NamesIn, TextIn, each-last, entry-refused-in, prelude-in, term-in}
+use Rattle.program_texts.proofs.TokensInLine.{Each}
 
 -- Refusals of entries.
 

@@ -8,13 +8,13 @@ use Rattle.elim_ports.specs.declared.port_error.PortError.{PortError}
 use Rattle.elim_ports.specs.declared.reading.ReadError.{ReadError}
 use Rattle.elim_ports.specs.declared.reading.ReadError.TheVariants.{TooLong}
 use Rattle.elim_ports.specs.Reading.{ReadsAll}
-use Rattle.elim_program.specs.declared.status.Status.{Status}
-use Rattle.elim_program.specs.declared.status.Status.TheVariants.{Done, Refused, Usage, ReadFault, WriteFault, NoMemory}
-use Rattle.elim_program.specs.Lines.{text_of}
+use Rattle.program_texts.specs.declared.status.Status.{Status}
+use Rattle.program_texts.specs.declared.status.Status.TheVariants.{Done, Refused, Usage, ReadFault, WriteFault, NoMemory}
+use Rattle.program_texts.specs.Lines.{text_of}
 use Rattle.elim_program.specs.Outputs.{Block, Output, compiled, head_lines, followed}
 use Rattle.elim_program.proofs.TextLines.{text_both}
 use Rattle.elim_program.specs.Runs.{IsFront, Follows, Says, Sent, Written, Failed}
-use Rattle.elim_program.specs.Texts.{limited}
+use Rattle.program_texts.specs.Texts.{limited}
 
 -- The bytes of a source.
 

@@ -23,7 +23,7 @@ use Rattle.case_trees.specs.OwnWalks.{own_walk_of}
 use Rattle.case_trees.specs.Points.{under_solution}
 use Rattle.case_trees.specs.Trees.{split_of}
 use Rattle.tree_translation.specs.Entries.{ordered_variables, entries_with, helpers_before, and_more, motive_entry, step_entry, helper_entry, function_entry, side_names, part_term, step_telescope, step_goal, step_node, helper_node, function_by_recursion}
-use Rattle.tree_translation.specs.Naming.{motive_name, step_name, helper_name, rec_name}
+use Rattle.tree_translation.specs.Naming.{motive_name, step_name, helper_name, rec_name, part_named}
 use Rattle.tree_translation.specs.Plans.{Plan, Part, own_part as plan_part}
 use Rattle.tree_translation.specs.Recursion.{Recursion, recursion_of, order_of, ordered_telescope, ordered_term, first_positions}
 use Rattle.tree_translation.specs.Splits.{Node}
@@ -33,7 +33,6 @@ use Rattle.leaf_terms.specs.RecursionMade.{made_at}
 use Rattle.function_entries.specs.CodeEntries.{translate_made}
 use Rattle.exact_laws.proofs.translation_laws.MadeEntries.{translate_made-is_entries}
 use Rattle.clause_reports.specs.DraftEntering.{enter_draft_of, enter_needed, enter_mention, Names}
-use Rattle.clause_reports.specs.Equations.{part_named}
 use Rattle.drafts.specs.draft_checks.Checks.{enterable, unmarked}
 use Rattle.clause_lines.specs.CodeReports.{report_made}
 use Rattle.clause_reports.specs.elaboration.Functions.{ClauseLine, Lines, function_level, failing_call, position_chosen, own_part, helpers_finished, own_finished}
@@ -41,12 +40,12 @@ use Rattle.clause_reports.specs.elaboration.Refusals.{Owner, OfType, OfDot, OfSi
 use Rattle.clause_reports.specs.elaboration.Walking.{Session, Opened, Walked, greatest_level, if_forced, check_dot, after_dots, without_self, if_low_level, and_level, open_over, opened, walk_clause, walk_right, walk_clauses}
 use Rattle.function_plans.specs.CodePlans.{own_tree_of, are_low_uses, chosen_made, own_alone, parts_made, plan_made}
 use Rattle.function_session.specs.function_lines.FunctionMade.{level_of, session_at, plan_over, checked_entered, draft_entered, drafts_entered, values_name, values_entered, translated, plan_entered, clause_line, reference_of, clause_reported, walks_reported, parts_reported, function_made}
-use Rattle.elim_program.proofs.EnteredNames.{IsIn, EntryIn, NamesAfter, DraftIn, enter_draft-in, enter_needed-in, enter_mention-in}
+use Rattle.program_texts.proofs.EnteredNames.{IsIn, EntryIn, NamesAfter, DraftIn, enter_draft-in, enter_needed-in, enter_mention-in}
 use Rattle.elim_program.proofs.FunctionTexts.{RefusalIn, ClauseIn, CallIn, at-owner, halts-in, granted-in, level-too-high-in, mismatch-in, walking-in, reporting-in, or-halts-in, self-in, not-smaller-in}
-use Rattle.elim_program.proofs.QuietWalks.{Any}
-use Rattle.elim_program.proofs.ReportsInLine.{ReportedIn, part-in, helper-in, ordered-made, report-in}
-use Rattle.elim_program.proofs.SessionInLine.{NamesIn, each-last, term-in}
-use Rattle.elim_program.proofs.TokensInLine.{Each}
+use Rattle.program_texts.proofs.QuietWalks.{Any}
+use Rattle.program_texts.proofs.ReportsInLine.{ReportedIn, part-in, helper-in, ordered-made, report-in}
+use Rattle.program_texts.proofs.SessionInLine.{NamesIn, each-last, term-in}
+use Rattle.program_texts.proofs.TokensInLine.{Each}
 
 -- the answer has P, or the refusal is written in line
 abbrev pub WritesIn : {A : Type 0} → (A → Type 0) → Elaborating A → Type 0

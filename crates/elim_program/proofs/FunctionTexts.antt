@@ -24,12 +24,12 @@ use Rattle.core_text.specs.ContextText.{context_text}
 use Rattle.clause_reports.specs.elaboration.Functions.{ClauseLine}
 use Rattle.clause_reports.specs.elaboration.Refusals.{Owner, Part, FailingCall, Refusal, Halts, Stuck, DotMismatch, SelfInType, NotSmaller, or_ill_typed, level_too_high, pattern_text, of_tree, or_ends, of_report, or_no_report, or_halts, owner_of}
 use Rattle.function_session.specs.Refusals.{failing_call, part_name, refused_function}
-use Rattle.elim_program.specs.ClauseTexts.{vector_text, line_text, clause_line, leaf_line, leaf_lines, with_leaves, clause_lines}
-use Rattle.elim_program.specs.Refusals.{clause_text, denial_text, failing_call_text, failing_calls_text, part_text, positions_text, sides_text, why_text}
-use Rattle.elim_program.proofs.EnteredNames.{IsIn, ReportIn}
-use Rattle.elim_program.proofs.QuietWalks.{Any}
-use Rattle.elim_program.proofs.SessionInLine.{TextIn, context-in, denial-in, ill-typed-in, NamesIn, has-names, stopped-in, term-in}
-use Rattle.elim_program.proofs.TokensInLine.{Each}
+use Rattle.program_texts.specs.ClauseTexts.{vector_text, line_text, clause_line, leaf_line, leaf_lines, with_leaves, clause_lines}
+use Rattle.program_texts.specs.Refusals.{clause_text, denial_text, failing_call_text, failing_calls_text, part_text, positions_text, sides_text, why_text}
+use Rattle.program_texts.proofs.EnteredNames.{IsIn, ReportIn}
+use Rattle.program_texts.proofs.QuietWalks.{Any}
+use Rattle.program_texts.proofs.SessionInLine.{TextIn, context-in, denial-in, ill-typed-in, NamesIn, has-names, stopped-in, term-in}
+use Rattle.program_texts.proofs.TokensInLine.{Each}
 
 -- ---- parts of lines
 

@@ -10,16 +10,16 @@ use Rattle.surface_syntax.specs.declared.token.Piece.{Piece}
 use Rattle.surface_syntax.specs.declared.token.Piece.TheVariants.{Gap, Found, Bad}
 use Rattle.surface_syntax.specs.declared.token.Token.{Token}
 use Rattle.surface_syntax.specs.declared.token.TokenKind.{TokenKind}
-use Rattle.elim_program.specs.declared.text_stop.TextStop.TheVariants as failure
-use Rattle.elim_program.specs.declared.words.Command.{Command}
+use Rattle.program_texts.specs.declared.text_stop.TextStop.TheVariants as failure
+use Rattle.program_texts.specs.declared.words.Command.{Command}
 use Rattle.surface_syntax.specs.Parses.{parsed}
-use Rattle.elim_program.specs.declared.words.Work.{Work}
+use Rattle.program_texts.specs.declared.words.Work.{Work}
 use Rattle.elim_program.specs.DefinedOutputs.{refused_words, compiles, verifies, works, HasOneOutput}
 use Rattle.elim_program.specs.Outputs.{compiled, text_block}
-use Rattle.elim_program.specs.Texts.{Answer, Gives, too_long, not_utf8, bad_token, tokens, limited, read, unless_unbuilt}
-use Rattle.elim_program.specs.Unbuilt.{unbuilt}
+use Rattle.program_texts.specs.Texts.{Answer, Gives, too_long, not_utf8, bad_token, tokens, limited, read, unless_unbuilt}
+use Rattle.program_texts.specs.Unbuilt.{unbuilt}
 use Rattle.elim_program.specs.Verifies.{file_block}
-use Rattle.elim_program.specs.Words.{asked, count_of, default_fuel, flags, fuel_of, is_fuel, verify_asked, work_asked, work_of}
+use Rattle.program_texts.specs.Words.{asked, count_of, default_fuel, flags, fuel_of, is_fuel, verify_asked, work_asked, work_of}
 use Rattle.elim_program.specs.WorkTexts.{work_text}
 use Rattle.elim_program.specs.Works.{work_output}
 

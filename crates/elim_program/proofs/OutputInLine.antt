@@ -19,18 +19,18 @@ use Rattle.function_session.proofs.Keeping.{elaborate-ready}
 use Rattle.surface_syntax.specs.Lexemes.{lexemes_of}
 use Rattle.surface_syntax.specs.Parses.{by_offset, offset_of}
 use Rattle.elim_program.specs.declared.counts.Counts.{Counts}
-use Rattle.elim_program.specs.declared.words.Command.{Command}
-use Rattle.elim_program.specs.declared.words.Work.{Work}
-use Rattle.elim_program.specs.ClauseTexts.{clause_lines}
+use Rattle.program_texts.specs.declared.words.Command.{Command}
+use Rattle.program_texts.specs.declared.words.Work.{Work}
+use Rattle.program_texts.specs.ClauseTexts.{clause_lines}
 use Rattle.elim_program.specs.Acceptance.{Acceptance, SaysAccepted}
 use Rattle.elim_program.specs.Headline.{IsHeadline, Headline}
-use Rattle.elim_program.specs.Lines.{lines_of, text_of}
+use Rattle.program_texts.specs.Lines.{lines_of, text_of}
 use Rattle.elim_program.specs.DefinedOutputs.{IsOutput, refused_words, compiles, verifies, works}
 use Rattle.elim_program.specs.Outputs.{Output, line_of, entry_lines, accepted_line, accepted_lines, lines_after, declared_name, declared_block, after, followed, declarations, text_block, head_lines}
 use Rattle.elim_program.specs.Runs.{IsFront}
-use Rattle.elim_program.specs.Texts as texts
-use Rattle.elim_program.specs.Texts.{Gives, too_long, not_utf8, bad_token, tokens, limited, read, unless_unbuilt}
-use Rattle.elim_program.specs.Unbuilt.{unbuilt}
+use Rattle.program_texts.specs.Texts as texts
+use Rattle.program_texts.specs.Texts.{Gives, too_long, not_utf8, bad_token, tokens, limited, read, unless_unbuilt}
+use Rattle.program_texts.specs.Unbuilt.{unbuilt}
 use Rattle.elim_program.specs.Verifies.{file_block, verified_line}
 use Rattle.elim_program.specs.VerifyHeadline.{IsVerifyHeadline, SaysVerified, VerifiedIsReady, VerifyHeadline}
 use Rattle.elim_program.specs.WorkTexts.{summary_line, work_text}
@@ -39,11 +39,11 @@ use Rattle.elim_program.proofs.Accepted.{accepted}
 use Rattle.elim_program.proofs.Shown.{shown}
 use Rattle.elim_program.proofs.ElaboratedInLine.{ElaboratedIn, WrittenIn, elaborated-in}
 use Rattle.elim_program.proofs.FunctionTexts.{clauses-in}
-use Rattle.elim_program.proofs.GrammarInLine.{DeclInLine, file-in, lexemes-good}
-use Rattle.elim_program.proofs.RefusalsInLine.{join, refused-lines-in, stop-in}
-use Rattle.elim_program.proofs.SessionInLine.{NamesIn, has-names, prelude-in}
+use Rattle.program_texts.proofs.GrammarInLine.{DeclInLine, file-in, lexemes-good}
+use Rattle.program_texts.proofs.RefusalsInLine.{join, refused-lines-in, stop-in}
+use Rattle.program_texts.proofs.SessionInLine.{NamesIn, has-names, prelude-in}
 use Rattle.elim_program.proofs.TextLines.{lines-text, lines-front}
-use Rattle.elim_program.proofs.TokensInLine.{Each, tokens-in}
+use Rattle.program_texts.proofs.TokensInLine.{Each, tokens-in}
 use Rattle.elim_program.proofs.FileLines.{file-lines-in}
 use Rattle.elim_program.proofs.Verified.{verified}
 

@@ -11,8 +11,8 @@ use Rattle.surface_syntax.specs.declared.stop.SyntaxStop.{SyntaxStop}
 use Rattle.surface_syntax.specs.declared.token.Token.{Token}
 use Rattle.surface_syntax.proofs.Runs.{run_file}
 use Rattle.elim_program.specs.Reading.{IsRead}
-use Rattle.elim_program.specs.Texts.{Answer, Gives, tokens, read, unless_unbuilt}
-use Rattle.elim_program.specs.Unbuilt.{unbuilt}
+use Rattle.program_texts.specs.Texts.{Answer, Gives, tokens, read, unless_unbuilt}
+use Rattle.program_texts.specs.Unbuilt.{unbuilt}
 
 -- the grammar has the declarations that are answered
 abbrev HasFile : List ℕ → List Token → Result (List Decl) SyntaxStop → Type 0

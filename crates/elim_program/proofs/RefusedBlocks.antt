@@ -1,18 +1,20 @@
--- The lines of a declaration that is refused.
-use Rattle.std.proofs.Common.{◌≡◌, ℕ, List, true, Result, Ok, Err, subst, ap, ◌∙◌}
+-- The lines of a declaration and of an entry that are refused.
+use Rattle.std.proofs.Common.{◌≡◌, ℕ, List, [], ◌∷◌, true, Result, Ok, Err, subst, ap, ◌∙◌}
 use Rattle.std.specs.Prelude.{OnOk}
 use Rattle.theory.specs.Signatures.{Signature}
 use Rattle.core_terms.specs.Answers.{Unless}
 use Rattle.surface_syntax.specs.Trees as surf
+use Rattle.family_check.specs.Entering.{Entered}
 use Rattle.elab_session.specs.Refusals.{IsUnforeseen}
 use Rattle.elab_session.specs.declared.refusal.Refusal.{Refusal}
 use Rattle.function_session.specs.Elaborating.{Elaborated}
 use Rattle.elim_program.specs.Blocks.{Makes}
 use Rattle.elim_program.specs.Outputs.{block, declared_block, declared_name, after}
-use Rattle.elim_program.specs.Refusals.{refused_lines}
+use Rattle.elim_program.specs.Verifies.{after_entry, entry_block}
+use Rattle.program_texts.specs.Refusals.{refusal_line, refused_lines}
 use Rattle.elim_program.specs.declared.block.Block as code
-use Rattle.elim_program.specs.declared.status.Status.{Status}
-use Rattle.elim_program.specs.declared.status.Status.TheVariants.{NoMemory}
+use Rattle.program_texts.specs.declared.status.Status.{Status}
+use Rattle.program_texts.specs.declared.status.Status.TheVariants.{NoMemory}
 
 no_ok : (b : code.Block) → ◌≡◌ {A = Result code.Block Status} (Ok b) (Err NoMemory) → ⊥
 no_ok b e = cc
@@ -30,3 +32,18 @@ pub after_refused : (S T : Signature) (r : Refusal) (result : Result code.Block 
 after_refused S T r (Err e) meant same memory answer = tt
 after_refused S T r (Ok b) meant same memory answer =
     let is : Err r ≡ meant = answer (λ u. no_ok b (memory u)) in same ∙ ap (after S) is
+
+-- ---- entries of a core file
+
+pub made_refusal : (r : Refusal) (result : Result code.Block Status) (meant : Result Entered Refusal) (name : List ℕ)
+    → Makes result (block (refusal_line name r ∷ []) true) → (IsUnforeseen r → result ≡ Err NoMemory) → Unless (IsUnforeseen r) (Err r ≡ meant)
+    → Makes result (entry_block name meant)
+made_refusal r (Err e) meant name made memory answer = made
+made_refusal r (Ok b) meant name made memory answer =
+    let is : Err r ≡ meant = answer (λ u. no_ok b (memory u)) in subst (λ m. Makes (Ok b) (entry_block name m)) is made
+
+pub after_refusal : (S T : Signature) (r : Refusal) (result : Result code.Block Status) (meant : Result Entered Refusal) → T ≡ S
+    → (IsUnforeseen r → result ≡ Err NoMemory) → Unless (IsUnforeseen r) (Err r ≡ meant) → OnOk result (T ≡ after_entry S meant)
+after_refusal S T r (Err e) meant same memory answer = tt
+after_refusal S T r (Ok b) meant same memory answer =
+    let is : Err r ≡ meant = answer (λ u. no_ok b (memory u)) in same ∙ ap (after_entry S) is

@@ -10,10 +10,10 @@ use Rattle.surface_syntax.specs.Trees as surf
 use Rattle.elab_session.specs.Sessions.{IsReady}
 use Rattle.function_session.specs.Elaborating.{Elaborated, elaborate_of}
 use Rattle.function_session.specs.Laws.{IsAsWritten}
-use Rattle.elim_program.specs.declared.words.Command.{Command}
+use Rattle.program_texts.specs.declared.words.Command.{Command}
 use Rattle.elim_program.specs.Acceptance.{AcceptedIsShown}
 use Rattle.elim_program.specs.Outputs.{head_lines}
-use Rattle.elim_program.specs.Words.{asked, command, flags, fuel_of, is_fuel, is_k, with_fuel}
+use Rattle.program_texts.specs.Words.{asked, command, flags, fuel_of, is_fuel, is_k, with_fuel}
 use Rattle.elim_program.specs.Written.{IsWritten}
 use Rattle.elim_program.proofs.FirstNames.{first-of_name, plain-name, plain-signature}
 use Rattle.elim_program.proofs.Lines.{if_ok}

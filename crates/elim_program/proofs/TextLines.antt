@@ -5,19 +5,13 @@ use Rattle.std.proofs.lemmas.Bool.{and_parts, false≢true}
 use Rattle.theory.specs.Signatures.{Signature}
 use Rattle.core_text.specs.Lines.{is_in_line, AreInLine}
 use Rattle.clause_reports.specs.elaboration.Functions.{ClauseLine}
-use Rattle.elim_program.specs.ClauseTexts.{clause_line, leaf_lines, with_leaves, clause_lines, clauses_text}
-use Rattle.elim_program.specs.Lines.{longer, lines_of, text_of}
+use Rattle.program_texts.specs.ClauseTexts.{clause_line, leaf_lines, with_leaves, clause_lines, clauses_text}
+use Rattle.program_texts.specs.Lines.{longer, lines_of, text_of}
 use Rattle.elim_program.specs.Outputs.{line_of, entry_lines}
 
 pub text_both : (xs ys : List (List ℕ)) → text_of (xs ++ ys) ≡ text_of xs ++ text_of ys
 text_both [] ys = refl
 text_both (x ∷ xs) ys = ap (λ t. x ++ 10 ∷ t) (text_both xs ys) ∙ sym (append_assoc x (10 ∷ text_of xs) (text_of ys))
-
--- texts that are written one after the other
-pub on_both : {E : Type 0} (r : Result (Unit {0}) E) (before middle after x y whole : List ℕ) → middle ≡ before ++ x → OnOk r (after ≡ middle ++ y) → x ++ y ≡ whole
-    → OnOk r (after ≡ before ++ whole)
-on_both (Ok u) before middle after x y whole m a e = a ∙ ap (λ l. l ++ y) m ∙ append_assoc before x y ∙ ap (λ l. before ++ l) e
-on_both (Err e) before middle after x y whole m a same = tt
 
 pub leaves_text : (S : Signature) (c : ClauseLine) → (clause_line S c ++ codes "\n") ++ text_of (leaf_lines S c.line) ≡ text_of (with_leaves S c)
 unfolding with_leaves

@@ -17,20 +17,20 @@ use Rattle.elab_session.specs.declared.refusal.Refusal.{Refusal}
 use Rattle.elab_session.proofs.Adding.{enter-adds}
 use Rattle.elab_session.proofs.Entered.{enter-ready}
 use Rattle.elab_session.proofs.PreludeReady.{prelude-ready}
-use Rattle.elim_program.specs.declared.text_stop.TextStop.TheVariants as stop
-use Rattle.elim_program.specs.declared.words.Command.{Command}
+use Rattle.program_texts.specs.declared.text_stop.TextStop.TheVariants as stop
+use Rattle.program_texts.specs.declared.words.Command.{Command}
 use Rattle.elim_program.specs.DefinedOutputs.{IsOutput, refused_words, compiles, verifies, works}
 use Rattle.elim_program.specs.Outputs.{Output, followed, head_lines}
-use Rattle.elim_program.specs.Refusals.{refusal_line, stop_line}
-use Rattle.elim_program.specs.Texts.{limited}
-use Rattle.elim_program.specs.Verifies.{after_entry, after_head, entries, entry_block, file_block, next_block, read_name, unread, verified_line}
+use Rattle.program_texts.specs.Refusals.{refusal_line, stop_line}
+use Rattle.program_texts.specs.Texts.{limited, unread}
+use Rattle.elim_program.specs.Verifies.{after_entry, after_head, entries, entry_block, file_block, next_block, read_name, verified_line}
 use Rattle.elim_program.specs.VerifyHeadline.{Holds, head, entry, IsVerifiedReady}
-use Rattle.elim_program.specs.Words.{verify_asked}
+use Rattle.program_texts.specs.Words.{verify_asked}
 use Rattle.elim_program.proofs.Entries.{can-enter}
-use Rattle.elim_program.proofs.FileHeads.{is-head}
+use Rattle.program_texts.proofs.FileHeads.{is-head}
 use Rattle.elim_program.proofs.Lines.{third, first_line, not_empty, not_one, after_heads, if_ok}
 use Rattle.elim_program.proofs.OneOutput.{not-both-asked, same-command, work-no-verify}
-use Rattle.elim_program.proofs.ReadInLine.{is-read}
+use Rattle.program_texts.proofs.ReadInLine.{is-read}
 
 -- the state before the entries from an offset on, with the lines of those before them
 record IsBefore (k : Bool) (text : List ℕ) (S : Signature) (from : ℕ) (earlier : List (List ℕ)) : Type 0 where

@@ -3,13 +3,13 @@ use Rattle.std.specs.Prelude.{◌||◌, is_some}
 use Rattle.std.proofs.lemmas.Bool.{true≢false}
 use Rattle.std.proofs.Common.{◌≡◌, ◌≢◌, ℕ, ◌⊎◌, inl, inr, Bool, true, false, List, Option, Some, None, Result, Err, IfSome, refl, subst}
 use Rattle.std.specs.Io.KnownBytes.{Appends}
-use Rattle.elim_program.specs.declared.status.Status.{Status}
-use Rattle.elim_program.specs.declared.status.Status.TheVariants.{Done, Refused, Usage, ReadFault, WriteFault, NoMemory}
-use Rattle.elim_program.specs.Lines.{text_of}
+use Rattle.program_texts.specs.declared.status.Status.{Status}
+use Rattle.program_texts.specs.declared.status.Status.TheVariants.{Done, Refused, Usage, ReadFault, WriteFault, NoMemory}
+use Rattle.program_texts.specs.Lines.{text_of}
 use Rattle.elim_program.specs.DefinedOutputs.{IsOutput, refused_words}
 use Rattle.elim_program.specs.Outputs.{Output, usage}
 use Rattle.elim_program.specs.Runs.{Follows, IsWhole, Runs, Wrote, nothing, output}
-use Rattle.elim_program.specs.Words.{asked, asks_for_source, verify_asked, work_asked}
+use Rattle.program_texts.specs.Words.{asked, asks_for_source, verify_asked, work_asked}
 use Rattle.elim_program.proofs.OutputInLine.{headline_of_front, verify_headline_of_front}
 use Rattle.elim_program.proofs.Following.{no_bytes, appends-nothing}
 

@@ -11,13 +11,13 @@ use Rattle.elab_session.specs.Refusals.{IsUnforeseen}
 use Rattle.elim_program.specs.Blocks.{Makes}
 use Rattle.elim_program.specs.Counting.{Refuses}
 use Rattle.elim_program.specs.Outputs.{block, declared_name}
-use Rattle.elim_program.specs.Refusals.{refused_lines}
+use Rattle.program_texts.specs.Refusals.{refused_lines}
 use Rattle.elim_program.specs.WorkTexts.{numbered, template, text_from}
 use Rattle.elim_program.specs.Works.{on_worked, with_accepted, worked}
 use Rattle.elim_program.specs.declared.block.Block.{Block}
 use Rattle.elim_program.specs.declared.counts.Counts.{Counts}
-use Rattle.elim_program.specs.declared.status.Status.{Status}
-use Rattle.elim_program.specs.declared.status.Status.TheVariants.{NoMemory}
+use Rattle.program_texts.specs.declared.status.Status.{Status}
+use Rattle.program_texts.specs.declared.status.Status.TheVariants.{NoMemory}
 
 -- one family and one function more
 text_more : (from count : ℕ) (before middle after : List ℕ) → count ≢ 0 → middle ≡ before ++ numbered from template → after ≡ middle ++ text_from (from + 1) (count - 1)

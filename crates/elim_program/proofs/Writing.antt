@@ -6,7 +6,7 @@ use Rattle.surface_syntax.specs.Trees as surf
 use Rattle.surface_syntax.specs.TreeMeanings.{decl_of}
 use Rattle.surface_syntax.specs.declared.tree.Decl.{Decl}
 use Rattle.function_session.specs.Elaborating.{elaborate_of}
-use Rattle.elim_program.specs.declared.status.Status.{Status}
+use Rattle.program_texts.specs.declared.status.Status.{Status}
 use Rattle.elim_program.specs.Outputs.{Block, declared_block, after, followed, declarations}
 use Rattle.elim_program.proofs.Following.{IsWriting, Writes, written_one, written_last, written_part}
 

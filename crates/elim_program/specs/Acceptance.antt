@@ -6,14 +6,14 @@ use Rattle.surface_syntax.specs.Trees.{Decl}
 use Rattle.elab_session.specs.Sessions.{IsReady}
 use Rattle.function_session.specs.Elaborating.{Elaborated, elaborate_of}
 use Rattle.function_session.specs.Laws.{IsAsWritten}
-use Rattle.elim_program.specs.ClauseTexts.{clause_lines}
-use Rattle.elim_program.specs.declared.words.Command.{Command}
+use Rattle.program_texts.specs.ClauseTexts.{clause_lines}
+use Rattle.program_texts.specs.declared.words.Command.{Command}
 use Rattle.elim_program.specs.DefinedOutputs.{IsOutput}
 use Rattle.elim_program.specs.Headline.{IsShown, Shows, core_lines}
-use Rattle.elim_program.specs.Lines.{lines_of, text_of}
+use Rattle.program_texts.specs.Lines.{lines_of, text_of}
 use Rattle.elim_program.specs.Outputs.{Output, accepted_line, head_lines, lines_after}
-use Rattle.elim_program.specs.Texts.{Gives}
-use Rattle.elim_program.specs.Words.{asked}
+use Rattle.program_texts.specs.Texts.{Gives}
+use Rattle.program_texts.specs.Words.{asked}
 
 -- Declarations that are accepted one by one from a signature on, and the signature with them. Each may spend `fuel` units.
 pub data Accepts (fuel : ℕ) : Signature → List Decl → Signature → Type 0 where

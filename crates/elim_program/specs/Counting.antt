@@ -2,8 +2,8 @@
 use Rattle.std.specs.Prelude.{◌≡◌, ℕ, true, List, Result, Ok, Err}
 use Rattle.elim_program.specs.declared.block.Block as code
 use Rattle.elim_program.specs.declared.counts.Counts.{Counts}
-use Rattle.elim_program.specs.declared.status.Status.{Status}
-use Rattle.elim_program.specs.declared.status.Status.TheVariants.{NoMemory}
+use Rattle.program_texts.specs.declared.status.Status.{Status}
+use Rattle.program_texts.specs.declared.status.Status.TheVariants.{NoMemory}
 use Rattle.elim_program.specs.Blocks.{text_of_block, shown}
 
 -- the lines of a block that refuses

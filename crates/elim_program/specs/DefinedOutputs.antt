@@ -1,11 +1,11 @@
 -- The output that is defined for the words and the bytes of a source, and the status.
 use Rattle.std.specs.Prelude.{◌≡◌, ℕ, List, Some, None}
-use Rattle.elim_program.specs.declared.words.Command.{Command}
-use Rattle.elim_program.specs.declared.words.Work.{Work}
+use Rattle.program_texts.specs.declared.words.Command.{Command}
+use Rattle.program_texts.specs.declared.words.Work.{Work}
 use Rattle.elim_program.specs.Outputs.{Output, usage, compiled, text_block}
-use Rattle.elim_program.specs.Texts.{Answer, Gives, limited}
+use Rattle.program_texts.specs.Texts.{Answer, Gives, limited}
 use Rattle.elim_program.specs.Verifies.{file_block}
-use Rattle.elim_program.specs.Words.{asked, verify_asked, work_asked}
+use Rattle.program_texts.specs.Words.{asked, verify_asked, work_asked}
 use Rattle.elim_program.specs.WorkTexts.{work_text}
 use Rattle.elim_program.specs.Works.{work_output}
 

@@ -5,8 +5,8 @@ use Rattle.theory.specs.Prelude.{prelude}
 use Rattle.theory.specs.WellFormed.{IsWellFormed}
 use Rattle.surface_syntax.specs.Trees.{Decl}
 use Rattle.clause_reports.specs.elaboration.Functions.{ClauseLine}
-use Rattle.elim_program.specs.ClauseTexts.{clause_lines}
-use Rattle.elim_program.specs.Lines.{lines_of, text_of}
+use Rattle.program_texts.specs.ClauseTexts.{clause_lines}
+use Rattle.program_texts.specs.Lines.{lines_of, text_of}
 use Rattle.elim_program.specs.DefinedOutputs.{IsOutput}
 use Rattle.elim_program.specs.Outputs.{Output, accepted_line, declared_name, head_lines, lines_after}
 use Rattle.elim_program.specs.Reading.{IsRead}

@@ -7,12 +7,12 @@ use Rattle.resolve.specs.DeclaredNames.{declared_word}
 use Rattle.core_text.specs.EntryText.{entry_text}
 use Rattle.function_session.specs.Elaborating.{Elaborated, elaborate_of}
 use Rattle.elab_session.specs.declared.refusal.Refusal.{Refusal}
-use Rattle.elim_program.specs.declared.status.Status.{Status}
-use Rattle.elim_program.specs.declared.status.Status.TheVariants as status
-use Rattle.elim_program.specs.declared.words.Command.{Command}
-use Rattle.elim_program.specs.ClauseTexts.{clause_lines}
-use Rattle.elim_program.specs.Refusals.{refused_lines, stop_line}
-use Rattle.elim_program.specs.Texts.{Answer}
+use Rattle.program_texts.specs.declared.status.Status.{Status}
+use Rattle.program_texts.specs.declared.status.Status.TheVariants as status
+use Rattle.program_texts.specs.declared.words.Command.{Command}
+use Rattle.program_texts.specs.ClauseTexts.{clause_lines}
+use Rattle.program_texts.specs.Refusals.{refused_lines, stop_line}
+use Rattle.program_texts.specs.Texts.{Answer}
 
 -- lines, and whether the last one refuses
 pub record Block : Type 0 where

@@ -5,7 +5,7 @@ use Rattle.surface_syntax.specs.Lexemes.{lexemes_of}
 use Rattle.surface_syntax.specs.Splitting.{AreTokens}
 use Rattle.surface_syntax.specs.Trees.{Decl}
 use Rattle.surface_syntax.specs.declared.token.Token.{Token}
-use Rattle.elim_program.specs.Texts.{limit}
+use Rattle.program_texts.specs.Texts.{limit}
 
 -- the bytes are no more than a source file may have, they split into tokens, and the grammar has these declarations for the tokens
 pub record IsRead (bytes : List ℕ) (decls : List Decl) : Type 0 where

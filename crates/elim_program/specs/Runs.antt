@@ -1,11 +1,11 @@
 -- The output and the status of a run.
 use Rattle.std.specs.Prelude.{◌≡◌, ◌≢◌, ℕ, Bool, List, [], ◌++◌, Option, Result, Ok, Err, IfSome, ◌⊎◌}
 use Rattle.std.specs.Io.KnownBytes.{Appends}
-use Rattle.elim_program.specs.declared.status.Status.{Status}
-use Rattle.elim_program.specs.declared.status.Status.TheVariants.{ReadFault, WriteFault, NoMemory}
+use Rattle.program_texts.specs.declared.status.Status.{Status}
+use Rattle.program_texts.specs.declared.status.Status.TheVariants.{ReadFault, WriteFault, NoMemory}
 use Rattle.elim_program.specs.DefinedOutputs.{IsOutput}
 use Rattle.elim_program.specs.Headline.{IsHeadline}
-use Rattle.elim_program.specs.Lines.{text_of}
+use Rattle.program_texts.specs.Lines.{text_of}
 use Rattle.elim_program.specs.Outputs.{Block, Output}
 use Rattle.elim_program.specs.VerifyHeadline.{IsVerifyHeadline}
 

@@ -8,15 +8,14 @@ use Rattle.core_text.specs.Heads.{head_of}
 use Rattle.core_text.specs.RawEntries.{RawEntry, RawFamilyOf, RawEliminator, RawAxiomK, RawDefinition}
 use Rattle.core_text.specs.TermText.{term_text}
 use Rattle.core_text.specs.declared.stop.CoreTextStop.{CoreTextStop}
-use Rattle.core_text.specs.declared.stop.CoreTextStop.TheVariants as core
 use Rattle.family_check.specs.Entering.{Entered}
 use Rattle.elab_session.specs.Entering.{enter_of}
 use Rattle.elab_session.specs.declared.refusal.Refusal.{Refusal}
-use Rattle.elim_program.specs.declared.text_stop.TextStop.{TextStop}
-use Rattle.elim_program.specs.declared.text_stop.TextStop.TheVariants as stop
-use Rattle.elim_program.specs.declared.words.Command.{Command}
+use Rattle.program_texts.specs.declared.text_stop.TextStop.TheVariants as stop
+use Rattle.program_texts.specs.declared.words.Command.{Command}
 use Rattle.elim_program.specs.Outputs.{Block, block, followed}
-use Rattle.elim_program.specs.Refusals.{stop_line, refusal_line}
+use Rattle.program_texts.specs.Refusals.{stop_line, refusal_line}
+use Rattle.program_texts.specs.Texts.{unread}
 
 -- the name of an entry that is read over S; that of an instance is how its symbol is spelled
 abbrev pub read_name : Signature → RawEntry → List ℕ
@@ -41,12 +40,6 @@ read_block S fuel raw = entry_block (read_name S raw) (enter_of S fuel raw)
 abbrev pub after_entry : Signature → Result Entered Refusal → Signature
 after_entry S (Ok x) = x.signature
 after_entry S (Err e) = S
-
--- why core text is not read
-abbrev pub unread : CoreTextStop → TextStop
-unread core.Memory = stop.Memory
-unread (core.Nested offset) = stop.Nested offset
-unread (core.NotCoreText offset) = stop.NotCoreText offset
 
 abbrev pub unread_block : CoreTextStop → Block
 unread_block e = block (stop_line (unread e) ∷ []) true

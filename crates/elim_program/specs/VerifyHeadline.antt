@@ -8,12 +8,12 @@ use Rattle.core_text.specs.Heads.{head_of}
 use Rattle.core_text.specs.RawEntries.{RawEntry}
 use Rattle.elab_session.specs.Adding.{Adds}
 use Rattle.elab_session.specs.Sessions.{IsReady}
-use Rattle.elim_program.specs.declared.words.Command.{Command}
+use Rattle.program_texts.specs.declared.words.Command.{Command}
 use Rattle.elim_program.specs.DefinedOutputs.{IsOutput}
-use Rattle.elim_program.specs.Lines.{lines_of, text_of}
+use Rattle.program_texts.specs.Lines.{lines_of, text_of}
 use Rattle.elim_program.specs.Outputs.{Output, head_lines}
 use Rattle.elim_program.specs.Verifies.{read_name, verified_line}
-use Rattle.elim_program.specs.Words.{verify_asked}
+use Rattle.program_texts.specs.Words.{verify_asked}
 
 -- The core text up to an offset has the signature: the prelude, with axiom K where the head says so and `k` allows it, and
 -- after it the entries that are read one by one, which have the names.

@@ -8,10 +8,10 @@ use Rattle.clause_reports.specs.elaboration.Functions.{ClauseLine}
 use Rattle.elab_session.specs.declared.refusal.Refusal.{Refusal}
 use Rattle.function_session.specs.Elaborating.{Elaborated, elaborate_of}
 use Rattle.elim_program.specs.declared.counts.Counts.{Counts}
-use Rattle.elim_program.specs.declared.words.Work.{Work}
+use Rattle.program_texts.specs.declared.words.Work.{Work}
 use Rattle.elim_program.specs.Outputs.{Block, block, declared_name, Output, compiled}
-use Rattle.elim_program.specs.Refusals.{refused_lines, stop_line}
-use Rattle.elim_program.specs.Texts.{Answer}
+use Rattle.program_texts.specs.Refusals.{refused_lines, stop_line}
+use Rattle.program_texts.specs.Texts.{Answer}
 use Rattle.elim_program.specs.WorkTexts.{summary_line}
 
 -- ---- counting

@@ -1,22 +1,21 @@
 ghost use Rattle.std.specs.Prelude.{◌≡◌, ◌≤◌, ◌<◌, ◌+◌, ◌-◌, ◌++◌, ◌∷◌, [], length, map, slice_get, codes, true, false, Err, OnErr, OnOk};
 ghost use Rattle.elab_session.specs.Refusals.{IsUnforeseen};
-ghost use Rattle.elim_program.specs.declared.status.Status.TheVariants.{NoMemory};
+ghost use Rattle.program_texts.specs.declared.status.Status.TheVariants.{NoMemory};
 ghost use Rattle.elim_program.specs.Blocks.{Makes};
-ghost use Rattle.elim_program.specs.ClauseTexts.{clause_lines};
-ghost use Rattle.elim_program.specs.Lines.{text_of};
+ghost use Rattle.program_texts.specs.ClauseTexts.{clause_lines};
+ghost use Rattle.program_texts.specs.Lines.{text_of};
 ghost use Rattle.elim_program.specs.Outputs as spec;
-ghost use Rattle.elim_program.specs.Refusals.{refusal_line, refused_lines, stop_line};
+ghost use Rattle.program_texts.specs.Refusals.{refusal_line, refused_lines, stop_line};
 ghost use Rattle.elim_program.specs.Verifies.{verified_line};
 ghost use Rattle.function_session.specs.function_lines.LineMeanings.{clause_line_of};
 
 use crate::clause_texts::write_clauses;
-use crate::refusals::{write_refusal_line, write_refused, write_stop};
-use crate::{Status, TextStop};
 use core_sig::Signature;
 use core_terms::Name;
 use core_text::print_entry;
 use elab_session::Refusal;
 use function_session::function_lines::ClauseLine;
+use program_texts::{Status, TextStop, write_refusal_line, write_refused, write_stop};
 use std::alloc::Global;
 
 /// Lines, each with its line feed, and whether the last one refuses.
@@ -42,8 +41,12 @@ pub(crate) fn stop_block(alloc: Global, stop: TextStop) -> Result<Block, Status>
 
 /// The last line, where an entry of a core file is refused.
 pub(crate) fn refusal_block(alloc: Global, name: &Name, refusal: &Refusal) -> Result<Block, Status>
-    ensures { Makes result (spec.block (refusal_line name.now refusal.now ∷ []) true) }
+    ensures made { Makes result (spec.block (refusal_line name.now refusal.now ∷ []) true) }
+    ensures memory { IsUnforeseen refusal.now → result ≡ Err NoMemory }
 {
+    if matches!(refusal, Refusal::Memory) {
+        return Err(Status::NoMemory);
+    }
     let mut text = Vec::new(alloc);
     write_refusal_line(&mut text, name, refusal)?;
     Ok(Block {

@@ -3,18 +3,17 @@ ghost use Rattle.clause_lines.specs.LineMeanings.{leaf_shown, line_of};
 ghost use Rattle.core_terms.specs.Meanings.{tele_of};
 ghost use Rattle.core_text.specs.SymbolNames.{name_at};
 ghost use Rattle.core_text.specs.TermText.{spaced};
-ghost use Rattle.elim_program.specs.ClauseTexts as spec;
-ghost use Rattle.elim_program.specs.Lines.{text_of};
-ghost use Rattle.elim_program.specs.declared.status.Status.TheVariants.{NoMemory};
+ghost use Rattle.program_texts.specs.ClauseTexts as spec;
+ghost use Rattle.program_texts.specs.Lines.{text_of};
+ghost use Rattle.program_texts.specs.declared.status.Status.TheVariants.{NoMemory};
 ghost use Rattle.function_session.specs.function_lines.LineMeanings.{clause_line_of};
 
-use crate::Status;
-use crate::refusals::write_number;
 use clause_lines::Line;
 use core_sig::Signature;
 use core_terms::{Tele, Term};
 use core_text::{context_text, print_term};
 use function_session::function_lines::ClauseLine;
+use program_texts::{Status, write_number};
 use std::alloc::Global;
 
 fn write_terms(

@@ -7,12 +7,13 @@ ghost use Rattle.elim_program.specs.Runs.{Written};
 ghost use Rattle.function_session.specs.Elaborating.{elaborate_of};
 ghost use Rattle.surface_syntax.specs.TreeMeanings.{decl_of};
 
+use crate::Block;
 use crate::block::{accepted_block, refused_block};
 use crate::running::send;
-use crate::{Block, Status};
 use core_terms::Name;
 use elim_ports::Sink;
 use function_session::Session;
+use program_texts::Status;
 use resolve::declared_word;
 use std::alloc::Global;
 use surface_syntax::Decl;

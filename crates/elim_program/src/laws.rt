@@ -2,7 +2,7 @@
 ghost use Rattle.elim_program.specs.Acceptance.{Acceptance, AcceptedIsShown};
 ghost use Rattle.elim_program.specs.DefinedOutputs.{HasOneOutput};
 ghost use Rattle.elim_program.specs.Headline.{Headline};
-ghost use Rattle.elim_program.specs.Refusals.{StopsHaveReasons};
+ghost use Rattle.program_texts.specs.Refusals.{StopsHaveReasons};
 ghost use Rattle.elim_program.specs.Verifies.{BoundIsEnough};
 ghost use Rattle.elim_program.specs.VerifyHeadline.{VerifiedIsReady, VerifyHeadline};
 ghost use Rattle.elim_program.specs.WorkLaws.{WorkCountsOutput};

@@ -3,23 +3,22 @@ ghost use Rattle.std.specs.Io.KnownBytes.{Appends};
 ghost use Rattle.core_terms.specs.Count.{Rose};
 ghost use Rattle.elim_program.specs.Outputs as spec;
 ghost use Rattle.elim_program.specs.Runs.{Follows, IsWhole, Runs, Sent, Written, Wrote};
-ghost use Rattle.elim_program.specs.Texts.{answer_of, limit, limited};
-ghost use Rattle.elim_program.specs.Lines.{text_of};
-ghost use Rattle.elim_program.specs.Refusals.{stop_line};
-ghost use Rattle.elim_program.specs.Words.{asks_for_source, asked};
+ghost use Rattle.program_texts.specs.Texts.{answer_of, limit, limited};
+ghost use Rattle.program_texts.specs.Lines.{text_of};
+ghost use Rattle.program_texts.specs.Refusals.{stop_line};
+ghost use Rattle.program_texts.specs.Words.{asks_for_source, asked};
 
 use crate::block::stop_block;
-use crate::command_line::asked;
 use crate::declaring::write_declarations;
-use crate::text_stop::is_memory;
-use crate::texts::{LIMIT, declarations};
 use crate::verifying::verify;
-use crate::words::{Asked, asks_for_source, work_asked};
 use crate::working::write_work;
-use crate::{Command, Status, TextStop};
 use core_terms::Items;
 use elim_ports::{PortError, ReadError, Sink, Source, read_all, write_all};
 use function_session::Session;
+use program_texts::{
+    Asked, Command, LIMIT, Status, TextStop, asked, asks_for_source, declarations, is_memory,
+    work_asked,
+};
 use std::alloc::Global;
 use surface_syntax::Decl;
 

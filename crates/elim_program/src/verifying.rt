@@ -13,20 +13,19 @@ ghost use Rattle.elab_session.specs.Entering.{enter_of};
 ghost use Rattle.elim_program.specs.Blocks.{Makes};
 ghost use Rattle.elim_program.specs.Outputs as outputs;
 ghost use Rattle.elim_program.specs.Runs.{Follows, Written, Wrote};
-ghost use Rattle.elim_program.specs.Texts.{limited};
+ghost use Rattle.program_texts.specs.Texts.{limited};
 ghost use Rattle.elim_program.specs.Verifies as spec;
-ghost use Rattle.elim_program.specs.Words.{verify_asked};
+ghost use Rattle.program_texts.specs.Words.{verify_asked};
 
+use crate::Block;
 use crate::block::{refusal_block, verified_block};
 use crate::running::{head, send, write_stop_line};
-use crate::text_stop::{is_memory, unread};
-use crate::{Block, Command, Status, TextStop};
 use core_sig::{Entry, Signature};
 use core_terms::{Items, Name, Term, copy_name};
 use core_text::{CoreTextStop, print_term, read_entry, read_head};
-use elab_session::Refusal;
 use elim_ports::Sink;
 use function_session::Session;
+use program_texts::{Command, Status, TextStop, is_memory, unread};
 use std::alloc::Global;
 
 /// How a symbol is spelled.
@@ -61,7 +60,6 @@ fn enter(alloc: Global, session: &mut Session, name: &Name, entry: Entry) -> Res
 {
     match session.enter(entry) {
         Ok(_) => verified_block(alloc, name),
-        Err(Refusal::Memory) => Err(Status::NoMemory),
         Err(refusal) => refusal_block(alloc, name, &refusal),
     }
 }

@@ -1,15 +1,14 @@
 ghost use Rattle.std.specs.Prelude.{◌≡◌, ◌≤◌, ◌+◌, ◌++◌, ◌∷◌, [], length, decimal, false, Err, OnErr, OnOk, IfOk, IfSome};
 ghost use Rattle.elim_program.specs.Blocks.{Makes};
 ghost use Rattle.elim_program.specs.Outputs.{block};
-ghost use Rattle.elim_program.specs.Texts.{limit, limited};
+ghost use Rattle.program_texts.specs.Texts.{limit, limited};
 ghost use Rattle.elim_program.specs.WorkTexts as spec;
-ghost use Rattle.elim_program.specs.declared.status.Status.TheVariants.{NoMemory};
+ghost use Rattle.program_texts.specs.declared.status.Status.TheVariants.{NoMemory};
 
+use crate::Block;
 use crate::counts::Counts;
-use crate::refusals::write_number;
-use crate::texts::LIMIT;
-use crate::{Block, Status};
 use core_terms::Items;
+use program_texts::{LIMIT, Status, write_number};
 use std::alloc::{AllocError, Global};
 
 const TEMPLATE: &[u8] =

@@ -4,24 +4,22 @@ ghost use Rattle.core_terms.specs.Count.{Rose};
 ghost use Rattle.elim_program.specs.Blocks.{Makes};
 ghost use Rattle.elim_program.specs.Counting.{Counted};
 ghost use Rattle.elim_program.specs.Runs.{Follows, Written, Wrote};
-ghost use Rattle.elim_program.specs.Texts.{answer_of, limit, limited};
-ghost use Rattle.elim_program.specs.Words.{work_asked};
+ghost use Rattle.program_texts.specs.Texts.{answer_of, limit, limited};
+ghost use Rattle.program_texts.specs.Words.{work_asked};
 ghost use Rattle.elim_program.specs.WorkTexts.{work_text};
 ghost use Rattle.elim_program.specs.Works as spec;
 ghost use Rattle.surface_syntax.specs.TreeMeanings.{decl_of};
 
+use crate::Block;
 use crate::block::{refused_block, stop_block};
 use crate::counts::{Counts, none_counted, with_accepted};
 use crate::declaring::declared_name;
 use crate::running::{head, send};
-use crate::text_stop::is_memory;
-use crate::texts::declarations;
-use crate::words::Work;
 use crate::work_texts::{summary, work_text};
-use crate::{Block, Status, TextStop};
 use core_terms::Items;
 use elim_ports::Sink;
 use function_session::Session;
+use program_texts::{Status, TextStop, Work, declarations, is_memory};
 use std::alloc::Global;
 use surface_syntax::Decl;
 

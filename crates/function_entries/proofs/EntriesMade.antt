@@ -19,10 +19,10 @@ use Rattle.split_terms.specs.Laws.{StepsAreThese}
 use Rattle.leaf_terms.specs.RecursionMade.{recursion_made}
 use Rattle.leaf_terms.proofs.RecursionFound.{recursion-found}
 use Rattle.function_entries.specs.CodeEntries.{body_made, entries_made, first_entries, helper_made, helper_with, helpers_made, last_entries, motive_made, node_type, old_order, own_order, plain_entries, plain_made, plain_with, recursive_entries, recursive_made, step_made, step_node, step_with, table_made, translation_with, tree_entry_made, with_draft}
-use Rattle.function_entries.specs.CodeNumbering.{numbered}
+use Rattle.leaf_terms.specs.CodeNumbering.{numbered}
 use Rattle.function_entries.specs.CodeTrees.{tree_made, tree_names_made}
 use Rattle.function_entries.specs.Laws.{TranslateIsEntries}
-use Rattle.function_entries.proofs.Mentions.{append-append}
+use Rattle.leaf_terms.proofs.Mentions.{append-append}
 use Rattle.function_entries.proofs.TreesMade.{tree-is, tree-names-are}
 
 -- ---- entries with a tree

@@ -1,7 +1,7 @@
 -- Lists that grow by one item or more at their end.
 use Rattle.std.proofs.Common.{◌≡◌, List, [], ◌∷◌, ◌++◌, map, refl, ap}
 use Rattle.tele_eq.proofs.Growing.{append-none, map-snoc-append}
-use Rattle.function_entries.proofs.Mentions.{append-append}
+use Rattle.leaf_terms.proofs.Mentions.{append-append}
 
 pub map-snoc : {A B : Type 0} (f : A → B) (xs : List A) (x : A) → map f (xs ++ x ∷ []) ≡ map f xs ++ f x ∷ []
 map-snoc f [] x = refl

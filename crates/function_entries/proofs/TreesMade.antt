@@ -22,7 +22,7 @@ use Rattle.split_terms.proofs.SplitsMade.{found-is, node-is, split-names-are, st
 use Rattle.leaf_terms.proofs.LeafTerms.{leaf-is-term}
 use Rattle.function_entries.specs.CodeTrees.{branch_names_made, branches_names_made, end_made, ends_made, names_at_split, names_from, next_made, node_after, node_with, split_at, split_from, tree_made, tree_names_made}
 use Rattle.function_entries.specs.Laws.{TreeIsTerm, TreeNamesAreThese}
-use Rattle.function_entries.proofs.Mentions.{append-append}
+use Rattle.leaf_terms.proofs.Mentions.{append-append}
 
 -- ---- nodes after runs
 

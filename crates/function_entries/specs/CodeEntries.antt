@@ -14,7 +14,7 @@ use Rattle.tree_translation.specs.Recursion.{Recursion, first_positions, order_o
 use Rattle.tree_translation.specs.TreeTerms.{Translation}
 use Rattle.tree_translation.specs.Entries.{goal_with_below, helper_node, ordered_variables, side_names, with_below}
 use Rattle.leaf_terms.specs.RecursionMade.{recursion_made}
-use Rattle.function_entries.specs.CodeNumbering.{numbered}
+use Rattle.leaf_terms.specs.CodeNumbering.{numbered}
 use Rattle.function_entries.specs.CodeTrees.{tree_made, tree_names_made}
 
 -- ---- the function's own part in the order of recursion

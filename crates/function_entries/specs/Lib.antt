@@ -1,5 +1,4 @@
 pub mod CodeEntries
-pub mod CodeNumbering
 pub mod CodeTrees
 pub mod Laws
 pub mod Sizes

@@ -1,7 +1,7 @@
 -- The meaning of the variable that a node is split on.
 use Rattle.std.specs.Prelude.{Option, option_map, IfSome}
 use Rattle.case_trees.specs.Problems.{Member}
-use Rattle.clause_walks.specs.LookMeanings.{member_meant}
+use Rattle.problems.specs.MemberMeanings.{member_meant}
 use Rattle.split_terms.specs.NodeMeanings.{IsWhole}
 use Rattle.function_entries.specs.declared.nodes.SplitVariable.{SplitVariable}
 

@@ -10,14 +10,13 @@ ghost use Rattle.leaf_terms.specs.RecursionMeanings.{recursion_of};
 ghost use Rattle.function_entries.specs.CodeEntries as spec;
 
 use crate::helpers::{old_order, plain_node};
-use crate::numbering::numbered;
 use crate::own_order::type_count;
 use crate::tree_entries::{table_of, tree_entry};
 use core_sig::{Draft, Signature};
 use core_terms::{Items, Name, Stop, Tele, Term, applied, copy_name, copy_tele, functions};
 use leaf_terms::{
-    Part, Plan, Recursion, Translation, motive_at, motive_name, parameters_at, remaining_positions,
-    scrutinee_at, step_name, terms_at,
+    Part, Plan, Recursion, Translation, motive_at, motive_name, numbered, parameters_at,
+    remaining_positions, scrutinee_at, step_name, terms_at,
 };
 use run_terms::{Naming, constant, rec_name, with_name, with_terms};
 use std::alloc::Global;
@@ -85,7 +84,7 @@ fn motive_and_step(
 }
 
 /// `ps (F!motive F) (F!step F) is x R`.
-#[tactic(auto, using(crate::proofs::Mentions::joining))]
+#[tactic(auto, using(leaf_terms::proofs::Mentions::joining))]
 fn function_arguments(
     alloc: Global,
     naming: Naming,

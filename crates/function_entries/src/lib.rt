@@ -8,7 +8,6 @@ mod helpers;
 pub mod laws;
 mod motives;
 mod nodes;
-mod numbering;
 mod own_order;
 mod steps;
 mod telescopes;
@@ -17,5 +16,4 @@ mod tree_naming;
 mod trees;
 
 pub use entries::translate;
-pub use numbering::numbered;
 pub use telescopes::ordered_variables;

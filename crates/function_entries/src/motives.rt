@@ -6,12 +6,11 @@ ghost use Rattle.leaf_terms.specs.PlanMeanings.{part_of, plan_of};
 ghost use Rattle.leaf_terms.specs.RecursionMeanings.{recursion_of};
 ghost use Rattle.function_entries.specs.CodeEntries as spec;
 
-use crate::numbering::numbered;
 use crate::own_order::{first_count, own_goal, own_telescope};
 use crate::telescopes::{after_first, with_first};
 use core_sig::Draft;
 use core_terms::{Items, Stop, Term, copy_tele, functions, products};
-use leaf_terms::{Part, Plan, Recursion, motive_name};
+use leaf_terms::{Part, Plan, Recursion, motive_name, numbered};
 use std::alloc::Global;
 
 /// `(F) -> (is) -> (x) -> Type L`.

@@ -10,12 +10,11 @@ ghost use Rattle.leaf_terms.specs.RecursionMeanings.{recursion_of};
 ghost use Rattle.function_entries.specs.CodeEntries as spec;
 
 use crate::candidates::side_names;
-use crate::numbering::numbered;
 use crate::tree_naming::tree_names;
 use crate::trees::tree_term;
 use core_sig::{Draft, Signature};
 use core_terms::{Items, Name, Stop, Term, copy_tele, copy_whole, functions, products};
-use leaf_terms::{Part, Plan, Recursion, Translation};
+use leaf_terms::{Part, Plan, Recursion, Translation, numbered};
 use run_terms::outlines::whole;
 use run_terms::with_names;
 use split_terms::Node;

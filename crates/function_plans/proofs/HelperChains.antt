@@ -3,7 +3,7 @@ use Rattle.std.proofs.Common.{◌≡◌, ℕ, ◌+◌, Option, List, [], ◌∷�
 use Rattle.core_terms.specs.Answers.{and_next, on_answer}
 use Rattle.core_terms.specs.CaseTrees.{Tree}
 use Rattle.case_trees.specs.Trees.{split_of}
-use Rattle.clause_reports.specs.Equations.{part_named}
+use Rattle.tree_translation.specs.Naming.{part_named}
 use Rattle.clause_reports.specs.elaboration.Functions.{finished, helper_level, helpers_finished}
 use Rattle.clause_reports.specs.elaboration.Refusals.{Elaborating, Refusal, answers, walking}
 use Rattle.clause_reports.specs.elaboration.Walking.{Session, Walked}

@@ -14,7 +14,7 @@ use Rattle.entry_laws.proofs.order_scopes.OrderLengths.{order-counted}
 use Rattle.tree_translation.specs.structural_rec.Laws.{IsTelescopeOrder}
 use Rattle.tree_translation.specs.Entries.{ordered_variables}
 use Rattle.tree_translation.specs.Recursion.{ordered_telescope, ordered_term}
-use Rattle.unifier.specs.Conditions.{most_levels}
+use Rattle.problems.specs.Conditions.{most_levels}
 use Rattle.function_plans.specs.CodePlans.{IsOwnWalked}
 use Rattle.function_plans.proofs.Columns.{clauses-for}
 

@@ -8,11 +8,11 @@ ghost use Rattle.function_checks.specs.function_walks.WalkingMeanings.{session_o
 ghost use Rattle.tree_translation.specs.structural_rec.Meanings as choices;
 
 use crate::smallness::{small_telescope, small_uses};
-use clause_equations::part_name;
 use core_terms::{Items, Stop, Tele, number_of};
 use core_text::print_term;
 use function_checks::function_refusals::{FailingCall, FunctionRefusal, owner_of};
 use function_checks::function_walks::Session;
+use leaf_terms::part_name;
 use std::alloc::Global;
 use tree_translation::structural_rec::{Choice, Failing, Use, choose_position};
 

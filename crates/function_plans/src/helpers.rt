@@ -7,19 +7,18 @@ ghost use Rattle.function_checks.specs.function_walks.Conditions.{AreWalked, IsW
 ghost use Rattle.function_checks.specs.function_walks.WalkingMeanings.{session_of, walked_of};
 ghost use Rattle.leaf_terms.specs.PlanMeanings.{parts_of};
 ghost use Rattle.leaf_terms.specs.RecursionMeanings.{recursion_of};
-ghost use Rattle.clause_reports.specs.Equations.{part_named};
+ghost use Rattle.tree_translation.specs.Naming.{part_named};
 ghost use Rattle.case_trees.specs.Trees.{split_of};
 ghost use Rattle.core_terms.specs.TreeMeanings.{case_tree_of};
 ghost use Rattle.clause_reports.specs.elaboration.Refusals.{walking};
 
 use crate::finishing::finished;
 use crate::trees::tree_of_clauses;
-use clause_equations::part_name;
 use core_terms::{Items, Tree, number_of};
 use function_checks::function_refusals::FunctionRefusal;
 use function_checks::function_walks::{Session, Walked};
 use kernel_check::Kernel;
-use leaf_terms::{Part, Recursion};
+use leaf_terms::{Part, Recursion, part_name};
 use std::alloc::Global;
 
 /// The level of a helper: with recursion at least that of the function.

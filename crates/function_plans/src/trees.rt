@@ -13,7 +13,7 @@ ghost use Rattle.function_checks.specs.function_walks.WalkingMeanings.{session_o
 ghost use Rattle.leaf_terms.specs.RecursionMeanings.{recursion_of};
 ghost use Rattle.tree_translation.specs.structural_rec.Laws.{IsTelescopeOrder};
 ghost use Rattle.tree_translation.specs.Recursion as recursion;
-ghost use Rattle.unifier.specs.Conditions.{most_levels};
+ghost use Rattle.problems.specs.Conditions.{most_levels};
 
 use clause_splitting::split_with;
 use core_sig::Signature;

@@ -18,7 +18,7 @@ use Rattle.tree_translation.specs.structural_rec.Choices.{choose}
 use Rattle.tree_translation.specs.Entries.{ordered_variables}
 use Rattle.tree_translation.specs.Plans.{Plan, Part}
 use Rattle.tree_translation.specs.Recursion.{Recursion, order_of, ordered_telescope, ordered_term}
-use Rattle.clause_reports.specs.Equations.{part_named}
+use Rattle.tree_translation.specs.Naming.{part_named}
 use Rattle.clause_reports.proofs.Keeping.{Any, any}
 use Rattle.resolve.specs.Functions.{Function}
 use Rattle.kernel_check.specs.Checking.{check_of, infer_sort_of}

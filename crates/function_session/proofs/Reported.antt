@@ -7,7 +7,8 @@ use Rattle.theory.proofs.Pushing.{prefix_reflexive, prefix_transitive}
 use Rattle.core_terms.specs.CaseTrees.{Walk}
 use Rattle.core_terms.proofs.Answers.{Answers, and_next-has}
 use Rattle.tree_translation.specs.Plans.{Plan, Part}
-use Rattle.clause_reports.specs.Equations.{Equation, part_at, part_named}
+use Rattle.clause_reports.specs.Equations.{Equation, part_at}
+use Rattle.tree_translation.specs.Naming.{part_named}
 use Rattle.clause_reports.specs.Reports.{Line, Definitional, Proved, Shadowed, Absurd, Reference, Reported, order_in, report_of}
 use Rattle.clause_reports.specs.Shadows.{TreeLeaf, equation_at_leaf, leaves_of}
 use Rattle.clause_reports.proofs.Keeping.{Grows, grows_same, grows_on, weaker-of-two}

@@ -8,7 +8,8 @@ use Rattle.core_terms.specs.CaseTrees.{Walk}
 use Rattle.core_terms.specs.declared.stop.Stop.{Stop}
 use Rattle.case_trees.specs.pattern_vectors.Matching.{matches_all}
 use Rattle.tree_translation.specs.Plans.{Plan, Part}
-use Rattle.clause_reports.specs.Equations.{Equation, equation_of, part_at, part_named, pats_of, closed_type}
+use Rattle.clause_reports.specs.Equations.{Equation, equation_of, part_at, pats_of, closed_type}
+use Rattle.tree_translation.specs.Naming.{part_named}
 use Rattle.clause_reports.specs.Laws.{IsOver}
 use Rattle.clause_reports.specs.ProofTerms.{proof_name}
 use Rattle.clause_reports.specs.Reports.{Line, Definitional, Proved, Shadowed, Absurd, Reference, some_absurd, order_in, shown_leaf}

@@ -13,7 +13,7 @@ use Rattle.resolve.specs.Resolving.{resolve_term}
 use Rattle.core_sig.specs.Drafts.{Draft}
 use Rattle.tree_translation.specs.Entries.{translate}
 use Rattle.tree_translation.specs.Plans.{Plan}
-use Rattle.clause_reports.specs.Equations.{part_named}
+use Rattle.tree_translation.specs.Naming.{part_named}
 use Rattle.clause_reports.specs.elaboration.Functions.{planned_of}
 use Rattle.clause_reports.specs.elaboration.Refusals.{Owner, owner_of}
 use Rattle.elab_session.specs.Declaring.{accepted_as}

@@ -5,7 +5,7 @@ use Rattle.k_laws.specs.Lines.{LinesLack}
 use Rattle.k_laws.specs.Laws.{LinesLackAxiomK}
 use Rattle.elim_program.specs.Acceptance.{Acceptance, IsAccepted}
 use Rattle.elim_program.specs.Headline.{IsShown}
-use Rattle.elim_program.specs.Lines.{lines_of, text_of}
+use Rattle.program_texts.specs.Lines.{lines_of, text_of}
 use Rattle.elim_program.specs.Outputs.{accepted_line}
 use Rattle.headline.specs.program_laws.CoreFiles.{IsCoreFile}
 use Rattle.headline.specs.program_laws.Laws.{WithoutK}

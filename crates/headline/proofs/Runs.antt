@@ -1,6 +1,6 @@
 -- The output of a run has the full headline.
 use Rattle.std.specs.Prelude.{ℕ, List, Option}
-use Rattle.elim_program.specs.declared.status.Status.{Status}
+use Rattle.program_texts.specs.declared.status.Status.{Status}
 use Rattle.elim_program.specs.Runs as old
 use Rattle.elim_program.specs.Runs.{Runs, Wrote}
 use Rattle.headline.specs.FullHeadline.{FullHeadline}

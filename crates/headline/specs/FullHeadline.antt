@@ -3,7 +3,7 @@ use Rattle.std.specs.Prelude.{◌≡◌, ℕ, false, List, ◌∷◌, ◌++◌}
 use Rattle.elim_program.specs.Acceptance.{IsAccepted}
 use Rattle.elim_program.specs.DefinedOutputs.{IsOutput}
 use Rattle.elim_program.specs.Headline.{IsShown}
-use Rattle.elim_program.specs.Lines.{lines_of, text_of}
+use Rattle.program_texts.specs.Lines.{lines_of, text_of}
 use Rattle.elim_program.specs.Outputs.{Output, accepted_line}
 use Rattle.k_laws.specs.Lines.{LinesLack}
 use Rattle.headline.specs.NewEntries.{AreNewEntries}

@@ -1,8 +1,8 @@
 -- The output and the status of a run.
 use Rattle.std.specs.Prelude.{◌≡◌, ℕ, List, [], Option, IfSome, ◌⊎◌}
 use Rattle.std.specs.Io.KnownBytes.{Appends}
-use Rattle.elim_program.specs.declared.status.Status.{Status}
-use Rattle.elim_program.specs.declared.status.Status.TheVariants.{ReadFault, NoMemory}
+use Rattle.program_texts.specs.declared.status.Status.{Status}
+use Rattle.program_texts.specs.declared.status.Status.TheVariants.{ReadFault, NoMemory}
 use Rattle.elim_program.specs.DefinedOutputs.{IsOutput}
 use Rattle.elim_program.specs.Outputs.{Output}
 use Rattle.elim_program.specs.Runs.{Follows}

@@ -1,13 +1,13 @@
 ghost use Rattle.std.specs.Prelude.{◌≡◌, ◌≢◌, map, IsTrue, not, string_bytes};
 ghost use Rattle.core_terms.specs.Count.{Rose};
-ghost use Rattle.elim_program.specs.Words.{asks_for_source};
+ghost use Rattle.program_texts.specs.Words.{asks_for_source};
 ghost use Rattle.headline.specs.Runs.{HasRun};
 ghost use Rattle.headline.specs.meaning_laws.Complete.{IsMeantWhole};
 
 use crate::laws::full_headline;
 use crate::meaning_laws::whole_is_meant;
 use elim_ports::{Sink, Source};
-use elim_program::Status;
+use program_texts::Status;
 use std::alloc::Global;
 
 /// Compiles the source file, or verifies the core file that `source` holds, or counts the clauses of a source file of

@@ -18,7 +18,7 @@ use Rattle.kernel_reduce.specs.Reduction.{nesting}
 use Rattle.case_trees.specs.Points.{under_solution}
 use Rattle.case_trees.specs.Stops.{Stopping, TreeStop}
 use Rattle.with_abstraction.specs.Abstractions.{Abstracted}
-use Rattle.clause_reports.specs.Equations.{part_named}
+use Rattle.tree_translation.specs.Naming.{part_named}
 use Rattle.clause_reports.specs.elaboration.Refusals.{Elaborating, OfGoal, OfSide, OfWith, Owner, Part, Refusal, answers, granted, halting, or_ends, or_halts, or_ill_typed, owner_of, walking}
 use Rattle.clause_reports.specs.elaboration.Walking.{Given, Opened, Opening, Session, Walked, after_dots, and_level, check_dot, if_low_level, joined, open_over, opened, variable_in, walk_clause, walk_clauses, walk_right, with_given, without_self}
 use Rattle.k_laws.specs.Lacking.{Lack, SignatureLacks}

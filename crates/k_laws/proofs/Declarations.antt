@@ -13,7 +13,7 @@ use Rattle.tree_translation.specs.Entries.{translate}
 use Rattle.tree_translation.specs.Plans.{Part, Plan}
 use Rattle.tree_translation.specs.Recursion.{Recursion}
 use Rattle.clause_reports.specs.DraftEntering.{Names, enter_needed}
-use Rattle.clause_reports.specs.Equations.{part_named}
+use Rattle.tree_translation.specs.Naming.{part_named}
 use Rattle.clause_reports.specs.Generated.{all_name}
 use Rattle.clause_reports.specs.Reports.{Reference, Reported}
 use Rattle.clause_reports.specs.Stops.{ReportStop, Reporting}

@@ -7,3 +7,4 @@ pub mod SeenAlike
 pub mod Taking
 pub mod TowerHeights
 pub mod Turning
+pub mod Mentions

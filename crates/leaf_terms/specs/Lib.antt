@@ -5,3 +5,4 @@ pub mod PlaceMeanings
 pub mod PlanMeanings
 pub mod RecursionMade
 pub mod RecursionMeanings
+pub mod CodeNumbering

@@ -2,7 +2,7 @@ ghost use Rattle.std.specs.Prelude.{◌≡◌, ◌<◌, ◌+◌, ◌^◌, ◌++�
 ghost use Rattle.core_terms.specs.Answers.{Gives};
 ghost use Rattle.tree_translation.specs.Naming as spec;
 
-use core_terms::{Name, Stop};
+use core_terms::{Name, Stop, copy_name};
 use std::alloc::Global;
 
 /// A function's name with a mark after it.
@@ -60,4 +60,14 @@ pub fn helper_name(alloc: Global, function: &Name, k: u32) -> Result<Name, Stop>
 {
     let text = marked(alloc, function, b"!w")?;
     Ok(Name::from_vec(with_digits(text, 9, k)?))
+}
+
+/// The name of part k of a function: its own, or that of helper k.
+pub fn part_name(alloc: Global, function: &Name, k: u32) -> Result<Name, Stop>
+    ensures { Gives (λ name. name) result (Ok (spec.part_named function.now k)) }
+{
+    if k == 0 {
+        return Ok(copy_name(alloc, function)?);
+    }
+    helper_name(alloc, function, k)
 }

@@ -8,6 +8,7 @@ mod entry_names;
 pub mod laws;
 mod leaves;
 mod mappings;
+mod numbering;
 mod orders;
 mod paths;
 mod plan;
@@ -16,9 +17,10 @@ mod right_sides;
 mod towers;
 
 pub use below_types::{below_type, copied_at, motive_at, parameters_at, scrutinee_at, terms_at};
-pub use entry_names::{helper_name, motive_name, step_name};
+pub use entry_names::{helper_name, motive_name, part_name, step_name};
 pub use leaves::{Translation, leaf_term};
 pub use mappings::{in_old_order, mapping};
+pub use numbering::numbered;
 pub use orders::{
     first_positions, order_of, ordered_telescope, ordered_term, recursive_order,
     remaining_positions,

@@ -21,7 +21,7 @@ use Rattle.with_abstraction.specs.Abstractions.{Abstracted, abstract_over_of}
 use Rattle.with_abstraction.specs.NormalForms.{normal_forms_of, plain_normals_of}
 use Rattle.tree_translation.specs.Entries.{ordered_variables}
 use Rattle.tree_translation.specs.Recursion.{Recursion, order_of, ordered_telescope, ordered_term}
-use Rattle.clause_reports.specs.Equations.{part_named}
+use Rattle.tree_translation.specs.Naming.{part_named}
 use Rattle.clause_reports.specs.Stops as report
 use Rattle.clause_reports.specs.Stops.{ReportStop, Reporting}
 use Rattle.clause_reports.specs.elaboration.Functions.{helpers_finished, own_finished, position_chosen}

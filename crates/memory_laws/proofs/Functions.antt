@@ -12,7 +12,7 @@ use Rattle.surface_syntax.specs.Trees as surf
 use Rattle.surface_syntax.specs.declared.tree.Word.{Word}
 use Rattle.tree_translation.specs.Plans.{Part, Plan}
 use Rattle.clause_reports.specs.DraftEntering.{Names}
-use Rattle.clause_reports.specs.Equations.{part_named}
+use Rattle.tree_translation.specs.Naming.{part_named}
 use Rattle.clause_reports.specs.elaboration.Functions.{ClauseLine, Lines, first_domains, function_level, own_part}
 use Rattle.clause_reports.specs.elaboration.Refusals as refusal
 use Rattle.clause_reports.specs.elaboration.Refusals.{OfType, Refusal, owner_of}

@@ -17,7 +17,8 @@ use Rattle.tree_translation.specs.Plans.{Part, Plan}
 use Rattle.tree_translation.specs.Recursion.{Recursion, order_of, ordered_telescope, ordered_term}
 use Rattle.tree_translation.proofs.EntryNames.{only_deep}
 use Rattle.clause_reports.specs.DraftEntering.{Names, enter_entry, mentioned}
-use Rattle.clause_reports.specs.Equations.{Equation, Site, equation_at, equation_of, left_side, leaf_site, part_at, part_named, pats_of, right_side, side_of, walk_site}
+use Rattle.clause_reports.specs.Equations.{Equation, Site, equation_at, equation_of, left_side, leaf_site, part_at, pats_of, right_side, side_of, walk_site}
+use Rattle.tree_translation.specs.Naming.{part_named}
 use Rattle.clause_reports.specs.Generated.{all_name}
 use Rattle.clause_reports.specs.ProofTerms.{candidate}
 use Rattle.clause_reports.specs.ProofWalks.{Place, Proof, first_place, leaves_in}

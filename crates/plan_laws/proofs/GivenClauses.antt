@@ -13,7 +13,7 @@ use Rattle.core_terms.specs.Clauses.{Clause, Clauses, Right, Is}
 use Rattle.core_terms.specs.Patterns as pattern
 use Rattle.case_trees.specs.OwnWalks.{own_walk_of}
 use Rattle.case_trees.specs.Points.{under_solution}
-use Rattle.clause_reports.specs.Equations.{part_named}
+use Rattle.tree_translation.specs.Naming.{part_named}
 use Rattle.clause_reports.specs.elaboration.Refusals.{OfSide, Owner, answers, granted, or_halts, owner_of, walking}
 use Rattle.clause_reports.specs.elaboration.Walking.{Given, Opened, Opening, Walked, helper_arguments, joined, open_over, opened, use_of, walk_clause, walk_clauses, walk_right}
 use Rattle.kernel_check.specs.Checking.{check_of}

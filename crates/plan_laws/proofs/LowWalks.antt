@@ -19,7 +19,7 @@ use Rattle.case_trees.specs.Points.{Point, bounded_point, point_keeping, start_a
 use Rattle.case_trees.specs.Stops as stop
 use Rattle.case_trees.specs.Stops.{TreeStop}
 use Rattle.case_trees.specs.Working.{of_columns, work_pairs}
-use Rattle.clause_reports.specs.Equations.{part_named}
+use Rattle.tree_translation.specs.Naming.{part_named}
 use Rattle.clause_reports.specs.elaboration.Refusals.{OfSide, Owner, answers, granted, or_halts, owner_of, walking}
 use Rattle.clause_reports.specs.elaboration.Walking.{Given, Opened, Session, open_over, opened, walk_clause, walk_clauses, walk_right}
 use Rattle.function_plans.specs.CodePlans.{are_low_uses}

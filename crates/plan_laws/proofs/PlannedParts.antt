@@ -12,7 +12,7 @@ use Rattle.case_trees.specs.Points.{start_at}
 use Rattle.case_trees.specs.Scoped.{AreClausesFor, IsScopedPoint, IsScopedTree}
 use Rattle.case_trees.specs.Stops.{Stopping}
 use Rattle.case_trees.specs.Trees.{split_of}
-use Rattle.clause_reports.specs.Equations.{part_named}
+use Rattle.tree_translation.specs.Naming.{part_named}
 use Rattle.clause_reports.specs.elaboration.Functions.{finished, helper_level, helpers_finished, own_finished}
 use Rattle.clause_reports.specs.elaboration.Refusals.{walking}
 use Rattle.clause_reports.specs.elaboration.Walking.{Session, Walked}

@@ -14,9 +14,9 @@ use Rattle.kernel_reduce.specs.WellScoped.{AreScoped}
 use Rattle.kernel_reduce.proofs.WellScoped.{scoped-all}
 use Rattle.unification.specs.Built as pure
 use Rattle.unification.specs.Built.{built_of}
-use Rattle.unifier.specs.CodeBuilt.{IfThere, IsBuiltAs}
-use Rattle.unifier.specs.declared.built.Built.{Built}
-use Rattle.unifier.proofs.BuiltCodes.{code-of, from_code, of-built}
+use Rattle.problems.specs.CodeBuilt.{IfThere, IsBuiltAs}
+use Rattle.problems.specs.declared.built.Built.{Built}
+use Rattle.problems.proofs.BuiltCodes.{code-of, from_code, of-built}
 use Rattle.case_trees.proofs.ScopedPoints.{built-parts}
 use Rattle.proof_walks.specs.NodeWalks.{Met, met_as, met_in, met_from}
 use Rattle.proof_walks.specs.WalkMeanings.{met_of}

@@ -23,7 +23,7 @@ use Rattle.kernel_reduce.specs.Reduction.{most_variables}
 use Rattle.kernel_reduce.specs.WellScoped.{AreScoped}
 use Rattle.kernel_reduce.proofs.WellScoped.{all-scoped, scoped-all, scoped-more}
 use Rattle.tele_eq.specs.Items.{term_at}
-use Rattle.unifier.specs.Conditions.{most_levels}
+use Rattle.problems.specs.Conditions.{most_levels}
 use Rattle.case_trees.proofs.ScopedPoints.{under-scoped, all-under-scoped}
 use Rattle.clause_walks.specs.PairConditions.{IsSolvedIn}
 use Rattle.clause_reports.specs.ProofWalks.{Place, Proof, Ends, Splits, Proofs, nil, cons, value_at, at_origin, moved_place, bounded_place, leaves_in, all_leaves}

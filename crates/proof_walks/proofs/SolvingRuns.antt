@@ -18,16 +18,17 @@ use Rattle.case_trees.specs.Stops.{TreeStop, Stopping}
 use Rattle.case_trees.proofs.Answered.{Holds}
 use Rattle.case_trees.proofs.Running.{AllRun, RunHas, all-run}
 use Rattle.case_trees.proofs.ScopedProblems.{IsMemberIn, problem-scoped}
-use Rattle.clause_walks.specs.LookConditions.{IsContext, IsMember}
-use Rattle.clause_walks.specs.LookMeanings.{ends_of, member_meant, runs_of}
+use Rattle.problems.specs.MemberConditions.{IsContext, IsMember}
+use Rattle.clause_walks.specs.LookMeanings.{ends_of, runs_of}
+use Rattle.problems.specs.MemberMeanings.{member_meant}
 use Rattle.clause_walks.specs.PairConditions.{IsSolving}
 use Rattle.clause_walks.specs.Reaching.{RunEnd, end_of_run, ends_behind}
 use Rattle.clause_walks.specs.Stops.{IsUnforeseen, Yields, stop_of}
-use Rattle.clause_walks.specs.declared.problems.Member as code
+use Rattle.problems.specs.declared.members.Member as code
 use Rattle.clause_walks.specs.declared.running.Ran as code_ran
 use Rattle.clause_walks.specs.declared.running.Runs as code_runs
 use Rattle.clause_walks.specs.declared.stops.TreeStop as code_stop
-use Rattle.clause_walks.proofs.Members.{member-meant-in}
+use Rattle.problems.proofs.FamilyMembers.{member-meant-in}
 use Rattle.clause_reports.specs.ProofWalks.{halted}
 use Rattle.clause_reports.specs.Stops.{Reporting}
 use Rattle.proof_walks.specs.SolvedRuns.{AreSolving, AreSolvingRuns, all_runs, halted_runs}

@@ -1,7 +1,7 @@
 -- The conditions on a variable that is split.
 use Rattle.std.specs.Prelude.{◌≡◌, ◌<◌, ℕ, Bool, true}
 use Rattle.theory.specs.Signatures.{Signature}
-use Rattle.clause_walks.specs.LookConditions.{IsMember}
+use Rattle.problems.specs.MemberConditions.{IsMember}
 use Rattle.proof_walks.specs.declared.nodes.Variable.{Variable}
 
 -- one of n variables, at a node that splits

@@ -2,7 +2,7 @@
 use Rattle.std.specs.Prelude.{ℕ, List, map}
 use Rattle.core_terms.specs.Meanings.{tree_of, tele_of}
 use Rattle.core_terms.specs.TreeMeanings.{branches_of}
-use Rattle.clause_walks.specs.LookMeanings.{member_meant}
+use Rattle.problems.specs.MemberMeanings.{member_meant}
 use Rattle.clause_reports.specs.ProofWalks.{Place}
 use Rattle.proof_walks.specs.proof_terms.ProofMeanings.{place_of}
 use Rattle.proof_walks.specs.NodeWalks as pure

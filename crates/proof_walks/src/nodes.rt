@@ -8,20 +8,19 @@ ghost use Rattle.core_terms.specs.Bounds.{most_height};
 ghost use Rattle.kernel_reduce.specs.Reduction.{whnf_of};
 ghost use Rattle.kernel_reduce.specs.WellScoped.{AreScoped};
 ghost use Rattle.case_trees.specs.Problems.{type_of_variable as type_meant};
-ghost use Rattle.clause_walks.specs.LookConditions.{IsContext};
-ghost use Rattle.clause_walks.specs.LookMeanings.{member_meant};
+ghost use Rattle.problems.specs.MemberConditions.{IsContext};
+ghost use Rattle.problems.specs.MemberMeanings.{member_meant};
 ghost use Rattle.proof_walks.specs.NodeConditions.{IsVariableOf};
 ghost use Rattle.proof_walks.specs.NodeWalks as spec;
 ghost use Rattle.proof_walks.specs.WalkMeanings.{met_of, variable_of};
 ghost use Rattle.unification.specs.ScopedStates.{IsReady};
-ghost use Rattle.unifier.specs.Conditions.{IsGiven};
+ghost use Rattle.problems.specs.Conditions.{IsGiven};
 
-use clause_walks::{Member, member_of, type_of_variable};
 use core_sig::Signature;
 use core_terms::{Stop, Tele, Term};
 use kernel_check::Kernel;
+use problems::{Built, Member, built_of, member_of, split_spine, type_of_variable, variable_in};
 use std::alloc::Global;
-use unifier::{Built, built_of, split_spine, variable_in};
 
 /// A constructor of a family, by its number and its arguments.
 #[derive(Drop)]

@@ -6,7 +6,7 @@ ghost use Rattle.clause_walks.specs.PairConditions.{IsSolvedIn};
 ghost use Rattle.clause_reports.specs.ProofWalks as spec;
 ghost use Rattle.proof_walks.specs.proof_terms.ProofMeanings.{place_of};
 ghost use Rattle.proof_walks.specs.PlaceScopes.{IsKeptPlace};
-ghost use Rattle.unifier.specs.Conditions.{most_levels};
+ghost use Rattle.problems.specs.Conditions.{most_levels};
 
 use crate::proof_places::moved_place;
 use crate::proof_terms::Place;

@@ -6,8 +6,9 @@ ghost use Rattle.core_terms.specs.TreeMeanings.{steps_of};
 ghost use Rattle.core_terms.specs.declared.stop.Stop.TheVariants.{Memory};
 ghost use Rattle.clause_reports.specs.ProofWalks as walks;
 ghost use Rattle.clause_reports.specs.Stops as stops;
-ghost use Rattle.clause_walks.specs.LookConditions.{IsContext, IsMember};
-ghost use Rattle.clause_walks.specs.LookMeanings.{ends_of, member_meant, runs_of, stuck_of};
+ghost use Rattle.problems.specs.MemberConditions.{IsContext, IsMember};
+ghost use Rattle.clause_walks.specs.LookMeanings.{ends_of, runs_of, stuck_of};
+ghost use Rattle.problems.specs.MemberMeanings.{member_meant};
 ghost use Rattle.clause_walks.specs.Stops as tree_stops;
 ghost use Rattle.clause_walks.specs.declared.stops.TreeStop.TheVariants as tree_stop;
 ghost use Rattle.drafts.specs.draft_entering.Stops.{Reports, stop_of};
@@ -16,16 +17,16 @@ ghost use Rattle.proof_walks.specs.SolvedRuns as spec;
 ghost use Rattle.unification.specs.Outcomes as outcomes;
 ghost use Rattle.unification.specs.declared.why.Why.TheVariants as why;
 ghost use Rattle.unification.specs.ScopedStates.{IsReady};
-ghost use Rattle.unifier.specs.Meanings.{outcome_of};
+ghost use Rattle.problems.specs.Meanings.{outcome_of};
 
-use clause_walks::{Member, Ran, Runs, StuckRun, TreeStop, run_from};
+use clause_walks::{Ran, Runs, StuckRun, TreeStop, run_from};
 use core_sig::Signature;
 use core_terms::{Items, Step, Stop, Term, copy_tele, copy_whole};
 use drafts::draft_entering::ReportStop;
 use kernel_check::Kernel;
+use problems::{Member, Outcome};
 use std::alloc::Global;
 use unification::Why;
-use unifier::Outcome;
 
 /// The refusal of a walk where running the problems of constructors is refused: units or heights ran out.
 fn halted(stop: TreeStop) -> ReportStop

@@ -3,7 +3,7 @@ ghost use Rattle.std.specs.Prelude.{◌≡◌, ◌≤◌, ◌+◌, length};
 ghost use Rattle.core_terms.specs.Meanings.{tree_of, tele_of};
 ghost use Rattle.proof_walks.specs.proof_terms.ProofMeanings.{place_of};
 ghost use Rattle.proof_walks.specs.PlaceScopes as spec;
-ghost use Rattle.unifier.specs.Conditions.{most_levels};
+ghost use Rattle.problems.specs.Conditions.{most_levels};
 
 use crate::proof_terms::Place;
 use core_sig::Signature;

@@ -6,7 +6,8 @@ ghost use Rattle.core_terms.specs.TreeMeanings.{branch_of, branches_of, case_tre
 ghost use Rattle.kernel_reduce.specs.WellScoped.{AreScoped};
 ghost use Rattle.theory.specs.SignatureScopes.{IsScoped};
 ghost use Rattle.clause_reports.specs.ProofWalks as walks;
-ghost use Rattle.clause_walks.specs.LookMeanings.{ends_of, member_meant, ran_of};
+ghost use Rattle.clause_walks.specs.LookMeanings.{ends_of, ran_of};
+ghost use Rattle.problems.specs.MemberMeanings.{member_meant};
 ghost use Rattle.drafts.specs.draft_entering.Stops.{Reports};
 ghost use Rattle.proof_walks.specs.proof_terms.ProofMeanings.{place_of, proof_of, proofs_of};
 ghost use Rattle.proof_walks.specs.NodeConditions.{IsVariableOf};
@@ -27,8 +28,8 @@ use core_sig::Signature;
 use core_terms::{Branch, Items, Stop, Term, Tree};
 use drafts::draft_entering::ReportStop;
 use kernel_check::Kernel;
+use problems::Outcome;
 use std::alloc::Global;
-use unifier::Outcome;
 
 /// A split of the tree: its family, its variable and its branches, and whether a variable of the clause's context may be split there.
 #[derive(Clone, Copy)]

@@ -19,7 +19,7 @@ use Rattle.case_trees.specs.Scoped.{IsScopedStop}
 use Rattle.case_trees.specs.Standing.{IsNode}
 use Rattle.case_trees.specs.Stops as stop
 use Rattle.case_trees.specs.Stops.{TreeStop}
-use Rattle.clause_reports.specs.Equations.{part_named}
+use Rattle.tree_translation.specs.Naming.{part_named}
 use Rattle.core_text.specs.ContextText.{context_text}
 use Rattle.clause_reports.specs.elaboration.Refusals.{of_tree}
 use Rattle.clause_reports.specs.elaboration.Walking.{Opened}

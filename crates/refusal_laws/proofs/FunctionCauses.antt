@@ -15,7 +15,7 @@ use Rattle.tree_translation.specs.Recursion.{Recursion}
 use Rattle.clause_lines.specs.CodeReports.{report_made}
 use Rattle.clause_reports.proofs.Keeping.{Any}
 use Rattle.clause_reports.specs.DraftEntering.{Names, enter_draft_of, enter_mention, enter_needed}
-use Rattle.clause_reports.specs.Equations.{part_named}
+use Rattle.tree_translation.specs.Naming.{part_named}
 use Rattle.clause_reports.specs.Generated.{all_name}
 use Rattle.clause_reports.specs.Reports.{Reference, report_of}
 use Rattle.drafts.specs.draft_checks.Checks.{enterable, unmarked}

@@ -1,7 +1,7 @@
 -- The conditions of the walks and trees of a part: it is scoped, and its clauses have one pattern for each of its columns.
 use Rattle.std.proofs.Common.{ℕ}
 use Rattle.core_terms.specs.Clauses.{Clauses}
-use Rattle.clause_reports.specs.Equations.{part_named}
+use Rattle.tree_translation.specs.Naming.{part_named}
 use Rattle.clause_reports.specs.elaboration.Refusals.{owner_of}
 use Rattle.clause_reports.specs.elaboration.Walking.{Opened}
 use Rattle.function_checks.proofs.function_clauses.OwnParts.{own-part-for}

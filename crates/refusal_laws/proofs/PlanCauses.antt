@@ -19,7 +19,7 @@ use Rattle.entry_laws.proofs.order_scopes.RecursionOrders.{recursion-ordered}
 use Rattle.tree_translation.specs.Entries.{ordered_variables}
 use Rattle.tree_translation.specs.Recursion.{Recursion, order_of, ordered_telescope, ordered_term}
 use Rattle.clause_reports.proofs.Keeping.{Any}
-use Rattle.clause_reports.specs.Equations.{part_named}
+use Rattle.tree_translation.specs.Naming.{part_named}
 use Rattle.clause_reports.specs.elaboration.Functions.{helpers_finished, own_finished, own_part, plan_of, position_chosen, recursion_in}
 use Rattle.clause_reports.specs.elaboration.Refusals.{Halts, Refusal, answers, or_ends, or_halts, walking}
 use Rattle.clause_reports.specs.elaboration.Walking.{Given, Opened, Walked, walk_clauses}

@@ -28,7 +28,7 @@ use Rattle.case_trees.specs.Stops.{TreeStop}
 use Rattle.tree_translation.proofs.Drafting.{bounded-ok}
 use Rattle.with_abstraction.specs.Abstractions.{Abstracted, abstract_over_of}
 use Rattle.clause_reports.proofs.Keeping.{Any}
-use Rattle.clause_reports.specs.Equations.{part_named}
+use Rattle.tree_translation.specs.Naming.{part_named}
 use Rattle.clause_reports.specs.elaboration.Refusals.{Elaborating, OfDot, OfGoal, OfSide, OfWith, Owner, Refusal, SelfInType, answers, granted, halting, level_too_high, or_halts, owner_of, walking}
 use Rattle.clause_reports.specs.elaboration.Walking.{Given, Opened, Walked, after_dots, and_level, check_dot, greatest_level, if_forced, if_low_level, open_over, opened, walk_clause, walk_clauses, walk_right, without_self}
 use Rattle.function_checks.proofs.function_clauses.Fitting.{clause-for}

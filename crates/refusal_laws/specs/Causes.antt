@@ -31,7 +31,7 @@ use Rattle.case_trees.specs.Stops.{TreeStop}
 use Rattle.tree_translation.specs.structural_rec.Choices.{Failing}
 use Rattle.tree_translation.specs.structural_rec.Laws.{AreRows}
 use Rattle.tree_translation.specs.structural_rec.Uses.{is_recursive}
-use Rattle.clause_reports.specs.Equations.{part_named}
+use Rattle.tree_translation.specs.Naming.{part_named}
 use Rattle.clause_reports.specs.Stops.{Rejection, rejection}
 use Rattle.core_text.specs.ContextText.{context_text}
 use Rattle.clause_reports.specs.elaboration.Functions.{failing_call, own_part}

@@ -10,7 +10,7 @@ use Rattle.case_trees.specs.Places.{clause_at}
 use Rattle.case_trees.specs.Points.{Point, start_at, under_solution}
 use Rattle.tree_translation.specs.Entries.{ordered_variables}
 use Rattle.tree_translation.specs.Recursion.{order_of, ordered_telescope, ordered_term}
-use Rattle.clause_reports.specs.Equations.{part_named}
+use Rattle.tree_translation.specs.Naming.{part_named}
 use Rattle.clause_reports.specs.elaboration.Functions.{own_part, recursion_in}
 use Rattle.clause_reports.specs.elaboration.Refusals.{owner_of}
 use Rattle.clause_reports.specs.elaboration.Walking.{Opened, Opening, open_over, opened}

@@ -12,7 +12,7 @@ use Rattle.core_sig.specs.declared.family.Arg.{Arg}
 use Rattle.core_sig.specs.declared.family.Family.{Family}
 use Rattle.core_sig.proofs.Arguments.{index_types-of}
 use Rattle.unification.specs.Records.{items_at, family_items}
-use Rattle.unifier.proofs.RecordItems.{items-more}
+use Rattle.problems.proofs.RecordItems.{items-more}
 
 length-inst : (s : ℕ → Term) (tele : Telescope) → length (inst_telescope s tele) ≡ length tele
 length-inst s [] = refl

@@ -8,7 +8,7 @@ use Rattle.tele_eq.specs.Items.{Item}
 use Rattle.unification.specs.Injecting.{lifted}
 use Rattle.unification.specs.Records.{argument_items, family_items, constructor_terms}
 use Rattle.unification.specs.States.{Equation, State}
-use Rattle.unifier.specs.CodeInjections.{equations_joined}
+use Rattle.problems.specs.CodeInjections.{equations_joined}
 use Rattle.tree_translation.specs.Comparisons.{Comparison}
 use Rattle.run_terms.specs.CodeInjections.{arguments_of, group_made, injected_made, proofs_after, terms_at}
 use Rattle.run_terms.specs.Made.{congruences_made, equations_made}

@@ -12,8 +12,8 @@ use Rattle.tele_eq.specs.Items.{Item}
 use Rattle.unification.specs.Injecting.{lifted}
 use Rattle.unification.specs.Records.{constructor_terms}
 use Rattle.unification.specs.States.{Equation, State, equations_at}
-use Rattle.unifier.specs.CodeInjections.{equations_joined}
-use Rattle.unifier.proofs.RecordItems.{values-are}
+use Rattle.problems.specs.CodeInjections.{equations_joined}
+use Rattle.problems.proofs.RecordItems.{values-are}
 use Rattle.run_terms.specs.CodeInjections.{moved_after_group}
 use Rattle.run_terms.specs.StandingMeanings.{equations_of}
 use Rattle.run_terms.specs.declared.state.Equation as code

@@ -3,8 +3,8 @@ use Rattle.std.proofs.Common.{Option, Some, None}
 use Rattle.core_sig.specs.Kinds.{HaveKinds}
 use Rattle.core_sig.specs.Meanings.{family_of}
 use Rattle.unification.specs.Built as pure
-use Rattle.unifier.specs.CodeBuilt.{IfThere, IsBuiltAs}
-use Rattle.unifier.specs.declared.built.Built.{Built}
+use Rattle.problems.specs.CodeBuilt.{IfThere, IsBuiltAs}
+use Rattle.problems.specs.declared.built.Built.{Built}
 use Rattle.theory.proofs.ScopedEntries.{All-at}
 
 pub kinds-there : (b : Built) (o : Option pure.Built) → IfThere (IsBuiltAs b) o → HaveKinds b.family (family_of b.record.now) 0 b.con.now.args

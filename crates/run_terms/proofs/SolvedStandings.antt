@@ -6,7 +6,7 @@ use Rattle.core_terms.specs.Meanings.{tree_of}
 use Rattle.unification.specs.Rules.{level_of}
 use Rattle.unification.specs.Solving.{deleted_state}
 use Rattle.unification.specs.States.{State}
-use Rattle.unifier.specs.declared.moving.Solution.{Solution}
+use Rattle.problems.specs.declared.moving.Solution.{Solution}
 use Rattle.tree_translation.specs.Standings.{Standing}
 use Rattle.run_terms.specs.CodeReplays.{moved_after_first, solved_by, solved_with}
 use Rattle.run_terms.specs.declared.moving.Sides.TheVariants.{Same}

@@ -5,7 +5,7 @@ use Rattle.core_terms.specs.Answers.{and_then}
 use Rattle.core_terms.specs.declared.stop.Stop.{Stop}
 use Rattle.tele_eq.specs.Items.{Item}
 use Rattle.unification.specs.States.{Equation, State}
-use Rattle.unifier.specs.CodeMoves.{equation_with}
+use Rattle.problems.specs.CodeMoves.{equation_with}
 use Rattle.tree_translation.specs.Standings.{Standing}
 
 -- the equation at a place, or the first refusal among its sides

@@ -11,7 +11,7 @@ use Rattle.unification.specs.Injecting.{lifted}
 use Rattle.unification.specs.Moving.{over_first, behind, moved}
 use Rattle.unification.specs.Records.{argument_items, family_items, constructor_terms}
 use Rattle.unification.specs.States.{Equation, State}
-use Rattle.unifier.specs.CodeInjections.{equations_joined}
+use Rattle.problems.specs.CodeInjections.{equations_joined}
 use Rattle.tree_translation.specs.Comparisons.{Comparison}
 use Rattle.tree_translation.specs.Replays.{with_state}
 use Rattle.tree_translation.specs.Standings.{Standing}

@@ -6,8 +6,8 @@ use Rattle.theory.specs.Terms.{Term}
 use Rattle.tele_eq.specs.Environments.{Environment, put}
 use Rattle.unification.specs.Moving.{over_first, behind}
 use Rattle.unification.specs.Solving.{reordered}
-use Rattle.unifier.specs.CodeMoves.{solved_environment}
-use Rattle.unifier.specs.declared.moving.Solution.{Solution}
+use Rattle.problems.specs.CodeMoves.{solved_environment}
+use Rattle.problems.specs.declared.moving.Solution.{Solution}
 use Rattle.tree_translation.specs.Standings.{at_levels}
 use Rattle.run_terms.specs.declared.moving.Sides.{Sides}
 use Rattle.run_terms.specs.declared.moving.Sides.TheVariants as side

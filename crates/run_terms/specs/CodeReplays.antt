@@ -9,8 +9,8 @@ use Rattle.unification.specs.Occurrences.{dependants, without}
 use Rattle.unification.specs.Rules.{level_of}
 use Rattle.unification.specs.Solving.{reordered, solved, new_context}
 use Rattle.unification.specs.States.{State, Equation}
-use Rattle.unifier.specs.CodeMoves.{solved_environment, state_with, variables_of}
-use Rattle.unifier.specs.declared.moving.Solution.{Solution}
+use Rattle.problems.specs.CodeMoves.{solved_environment, state_with, variables_of}
+use Rattle.problems.specs.declared.moving.Solution.{Solution}
 use Rattle.run_terms.specs.CodePlaces.{side_of}
 use Rattle.run_terms.specs.declared.moving.Sides.{Sides}
 use Rattle.tree_translation.specs.Standings.{Standing, inside, levels_from}

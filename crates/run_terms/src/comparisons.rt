@@ -9,7 +9,7 @@ ghost use Rattle.core_terms.specs.Bounds.{most_height};
 ghost use Rattle.unification.specs.Built as built;
 ghost use Rattle.unification.specs.Groups as groups;
 ghost use Rattle.unification.specs.States as states;
-ghost use Rattle.unifier.specs.CodeGroups.{lowered_under};
+ghost use Rattle.problems.specs.CodeLowering.{lowered_under};
 ghost use Rattle.tree_translation.specs.Comparisons as spec;
 ghost use Rattle.run_terms.specs.ComparisonMeanings.{HasMemberKinds, comparison_of, member_of};
 ghost use Rattle.run_terms.specs.StandingMeanings.{equations_of, state_of};
@@ -18,8 +18,8 @@ use crate::instances::all_instantiated;
 use crate::state::{Equation, State};
 use core_sig::Signature;
 use core_terms::{Items, Step, Stop, Tele, Term, applied, copy_tele, copy_whole, into_spine, next};
+use problems::{Built, built_of, split_spine};
 use std::alloc::Global;
-use unifier::{Built, built_of, split_spine};
 
 /// A constructor at its parameters and its arguments.
 #[derive(Drop)]

@@ -5,16 +5,16 @@ ghost use Rattle.tele_eq.specs.Environments as environments;
 ghost use Rattle.tele_eq.specs.Items.{term_at};
 ghost use Rattle.unification.specs.Moving as spec;
 ghost use Rattle.unification.specs.Solving as solving;
-ghost use Rattle.unifier.specs.CodeMoves.{equation_moved};
+ghost use Rattle.problems.specs.CodeMoves.{equation_moved};
 ghost use Rattle.run_terms.specs.CodePlaces.{environment_of, side_of};
 ghost use Rattle.run_terms.specs.StandingMeanings.{equation_of, equations_of};
 
 use crate::places::{Places, put};
 use crate::state::{Equation, equation_between};
 use core_terms::{Items, Stop, Tele, Term, copy_whole, next};
+use problems::Solution;
 use std::alloc::Global;
 use tele_eq::Item;
-use unifier::Solution;
 
 /// How the sides of equations change: they stay, or a variable of theirs is solved.
 #[derive(Clone, Copy)]

@@ -8,8 +8,8 @@ ghost use Rattle.run_terms.specs.CodePlaces.{after_environment, environment_of, 
 
 use crate::raising::term_at;
 use core_terms::{Stop, Term, copy_whole, next, sum};
+use problems::Solution;
 use std::alloc::Global;
-use unifier::Solution;
 
 /// Terms over the first `over` variables for the first `count` places after `size` variables; the further places are from level
 /// `new` on.

@@ -9,7 +9,7 @@ ghost use Rattle.unification.specs.Moving.{behind, over_first};
 ghost use Rattle.unification.specs.Occurrences.{dependants, without};
 ghost use Rattle.unification.specs.Rules.{level_of};
 ghost use Rattle.unification.specs.Solving as solving;
-ghost use Rattle.unifier.specs.CodeMoves.{solved_environment, solved_equations, state_with, variables_of};
+ghost use Rattle.problems.specs.CodeMoves.{solved_environment, solved_equations, state_with, variables_of};
 ghost use Rattle.run_terms.specs.CodePlaces.{environment_of};
 ghost use Rattle.run_terms.specs.CodeReplays.{kept_by, moved_after_first, moved_by, solved_by, solved_variables, solved_with};
 ghost use Rattle.run_terms.specs.StandingMeanings.{equations_of, standing_of, state_of};
@@ -22,8 +22,8 @@ use crate::standings::{after_first, first_level, inside};
 use crate::state::{Equation, Standing, State, standing_at};
 use core_sig::equality;
 use core_terms::{Items, Stop, Tele, Term, copy_tele, copy_whole, next, number_of, sum};
+use problems::Solution;
 use std::alloc::Global;
-use unifier::Solution;
 
 /// `refl.i A a`.
 pub fn reflexivity(alloc: Global, level: u8, ty: Term, a: Term) -> Result<Term, Stop>

@@ -7,7 +7,7 @@ use Rattle.tele_eq.specs.Items.{Item}
 use Rattle.unification.specs.Injecting.{lifted}
 use Rattle.unification.specs.Records.{argument_items, family_items, constructor_terms}
 use Rattle.case_trees.specs.Problems.{Member, problem_of}
-use Rattle.clause_walks.specs.Reaching.{problem_of_parts}
+use Rattle.problems.specs.ProblemsMade.{problem_of_parts}
 
 pub parts-are : (context : Telescope) (x : ℕ) (m : Member) (number : ℕ) (c : Constructor) (count : ℕ) (arguments telescope : List Item) (left : List Term)
     → count ≡ length c.arguments → arguments ≡ argument_items m.n m.parameters c

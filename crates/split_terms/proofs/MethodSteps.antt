@@ -13,7 +13,7 @@ use Rattle.core_sig.specs.declared.family.Constructor as code
 use Rattle.case_trees.specs.Problems.{Member}
 use Rattle.tree_translation.specs.Naming.{Naming}
 use Rattle.tree_translation.specs.Splits.{Node, behind_first, first_of, is_absurd}
-use Rattle.clause_walks.specs.declared.problems.Member as walks
+use Rattle.problems.specs.declared.members.Member as walks
 use Rattle.split_terms.specs.CodeSplits.{branch_ended, method_made, methods_ended, with_methods}
 use Rattle.split_terms.specs.NodeMeanings.{AllFitIn, IsWhole}
 

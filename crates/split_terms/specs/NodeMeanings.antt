@@ -8,7 +8,7 @@ use Rattle.core_sig.specs.Meanings.{family_of}
 use Rattle.core_sig.specs.declared.family.Constructor.{Constructor}
 use Rattle.tree_translation.specs.Splits as pure
 use Rattle.tree_translation.specs.Standings as standings
-use Rattle.clause_walks.specs.declared.problems.Member.{Member}
+use Rattle.problems.specs.declared.members.Member.{Member}
 use Rattle.run_terms.specs.StandingMeanings.{standing_of}
 use Rattle.run_terms.specs.declared.state.Standing.{Standing}
 use Rattle.split_terms.specs.declared.node.Node.{Node}

@@ -5,14 +5,14 @@ ghost use Rattle.core_sig.specs.Meanings.{family_of};
 ghost use Rattle.kernel_reduce.specs.Entries.{family_at};
 ghost use Rattle.tele_eq.specs.Items.{items_of};
 ghost use Rattle.tree_translation.specs.Splits as splits;
-ghost use Rattle.clause_walks.specs.LookMeanings.{member_meant};
+ghost use Rattle.problems.specs.MemberMeanings.{member_meant};
 ghost use Rattle.split_terms.specs.CodeSplits as spec;
 ghost use Rattle.split_terms.specs.NodeMeanings.{IsWhole};
 
-use clause_walks::{Member, member_of};
 use core_sig::Signature;
 use core_terms::{MAX_HEIGHT, Stop, Tele, Term, copy_tele, copy_whole};
 use kernel_reduce::family;
+use problems::{Member, member_of};
 use std::alloc::Global;
 use tele_eq::Item;
 

@@ -8,7 +8,7 @@ ghost use Rattle.unification.specs.Injecting as injecting;
 ghost use Rattle.unification.specs.Records as records;
 ghost use Rattle.tree_translation.specs.RunTerms.{no_term};
 ghost use Rattle.tree_translation.specs.Splits as splits;
-ghost use Rattle.clause_walks.specs.LookMeanings.{member_meant};
+ghost use Rattle.problems.specs.MemberMeanings.{member_meant};
 ghost use Rattle.run_terms.specs.outlines.OutlineMeanings.{outline_of, outlines_of};
 ghost use Rattle.run_terms.specs.CodeNaming.{naming_of};
 ghost use Rattle.run_terms.specs.StandingMeanings.{standing_of};
@@ -17,13 +17,13 @@ ghost use Rattle.split_terms.specs.CodeRunTerms.{run_made};
 ghost use Rattle.split_terms.specs.CodeSplits as spec;
 ghost use Rattle.split_terms.specs.NodeMeanings.{AllFitIn, FitsIn, node_of};
 
+use crate::branch_problems::{arguments_at, branch_standing, indices_after};
 use crate::members::{scrutinee, with_types};
 use crate::node::Node;
-use crate::problems::{arguments_at, branch_standing, indices_after};
 use crate::runs::run_term;
-use clause_walks::Member;
 use core_sig::{Constructor, Signature};
 use core_terms::{Items, Rule, Step, Stop, Tele, Term, functions, next, number_of, products, sum};
+use problems::Member;
 use run_terms::outlines::{Outline, Outlines, in_body};
 use run_terms::{
     Naming, Standing, all_raised, argument_items, equations_made, family_items, raised, state_term,

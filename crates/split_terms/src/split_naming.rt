@@ -4,19 +4,19 @@ ghost use Rattle.core_terms.specs.Meanings.{tree_of};
 ghost use Rattle.core_terms.specs.TreeMeanings.{steps_of};
 ghost use Rattle.core_sig.specs.Meanings.{constructor_of};
 ghost use Rattle.tree_translation.specs.TreeTerms as trees;
-ghost use Rattle.clause_walks.specs.LookMeanings.{member_meant};
+ghost use Rattle.problems.specs.MemberMeanings.{member_meant};
 ghost use Rattle.split_terms.specs.Bare.{bare_standing};
 ghost use Rattle.split_terms.specs.CodeRunTerms as runs;
 ghost use Rattle.split_terms.specs.CodeSplits as spec;
 ghost use Rattle.split_terms.specs.NodeMeanings.{AllFitIn, FitsIn, IsWhole, named_nodes_of, node_of};
 
+use crate::branch_problems::branch_standing;
 use crate::members::type_member;
 use crate::names::run_ended;
 use crate::node::{Node, node_at};
-use crate::problems::branch_standing;
-use clause_walks::Member;
 use core_sig::{Constructor, Signature};
 use core_terms::{Items, Name, Step, Stop, Term, next};
+use problems::Member;
 use run_terms::case_name;
 use std::alloc::Global;
 

@@ -5,7 +5,7 @@ ghost use Rattle.core_terms.specs.PatternMeanings.{clause_of, clauses_of, pats_o
 ghost use Rattle.theory.specs.SignatureScopes.{IsScoped, IsScopedTelescope};
 ghost use Rattle.case_trees.specs.pattern_vectors.Matching.{is_as_long};
 ghost use Rattle.unification.specs.ScopedStates.{IsReady};
-ghost use Rattle.unifier.specs.Conditions.{most_levels};
+ghost use Rattle.problems.specs.Conditions.{most_levels};
 ghost use Rattle.case_trees.specs.Laws.{IsGiven};
 ghost use Rattle.case_trees.specs.Scoped.{AreClausesFor, IsClauseOf};
 

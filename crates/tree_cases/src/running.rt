@@ -3,7 +3,7 @@ ghost use Rattle.core_terms.specs.Meanings.{tele_of, tree_of};
 ghost use Rattle.core_terms.specs.PatternMeanings.{clause_of, clauses_of};
 ghost use Rattle.elab_session.specs.Sessions as session;
 ghost use Rattle.unification.specs.ScopedStates.{IsReady};
-ghost use Rattle.unifier.specs.Conditions.{most_levels};
+ghost use Rattle.problems.specs.Conditions.{most_levels};
 ghost use Rattle.resolve.specs.Functions.{IsFun};
 ghost use Rattle.surface_syntax.specs.TreeMeanings.{decl_of};
 ghost use Rattle.case_trees.specs.Laws.{IsGiven};

@@ -96,3 +96,8 @@ decimal n = digits 9 n
 -- the name of helper k
 abbrev pub helper_name : (function : List ℕ) (k : ℕ) → List ℕ
 helper_name function k = function ++ codes "!w" ++ decimal k
+
+-- the name of part k: the function, or helper k
+abbrev pub part_named : (function : List ℕ) (k : ℕ) → List ℕ
+part_named function zero = function
+part_named function (suc k) = helper_name function (suc k)

@@ -14,8 +14,8 @@ use Rattle.core_sig.specs.declared.family.Arg.{Arg}
 use Rattle.kernel_reduce.specs.Reduction.{answered, whnf_of}
 use Rattle.unification.specs.Built.{is_direct}
 use Rattle.unification.specs.Cycles.{Search, found_as, here_or, among_arguments}
-use Rattle.unifier.specs.CodeCycles.{at_argument, search_within}
-use Rattle.unifier.proofs.CycleForms.{mapped}
+use Rattle.problems.specs.CodeCycles.{at_argument, search_within}
+use Rattle.problems.proofs.CycleForms.{mapped}
 
 drop-past : {A : Type 0} (xs : List A) (k : ℕ) → length xs ≤ k → drop k xs ≡ []
 drop-past [] zero le = refl

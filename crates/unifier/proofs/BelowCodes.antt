@@ -16,11 +16,11 @@ use Rattle.kernel_reduce.proofs.SpineLengths.{spine_fits}
 use Rattle.unification.specs.Built as pure
 use Rattle.unification.specs.Built.{built_of}
 use Rattle.unification.specs.Cycles.{among_arguments, with_arguments}
-use Rattle.unifier.specs.CodeBuilt.{IsBuiltAs}
-use Rattle.unifier.specs.CodeCycles.{search_within, within}
-use Rattle.unifier.specs.declared.built.Built.{Built}
-use Rattle.unifier.proofs.BuiltCodes.{from_code, of-built, of-pure}
-use Rattle.unifier.proofs.CycleForms.{bounded_by, mapped, search-among}
+use Rattle.problems.specs.CodeBuilt.{IsBuiltAs}
+use Rattle.problems.specs.CodeCycles.{search_within, within}
+use Rattle.problems.specs.declared.built.Built.{Built}
+use Rattle.problems.proofs.BuiltCodes.{from_code, of-built, of-pure}
+use Rattle.problems.proofs.CycleForms.{bounded_by, mapped, search-among}
 
 -- an answer after units that are left
 pub gives-runs : {A B : Type 0} (f : A → B) (result : Result A Stop) (left : ℕ) (meant : Result B Stop) (whole : Spent B) → Gives f result meant → ◌≡◌ {A = Spent B} (meant, left) whole → Runs f result left whole

@@ -18,10 +18,10 @@ use Rattle.unification.specs.Constructors.{with_built, constructor_turn}
 use Rattle.unification.specs.Heights.{injection_made}
 use Rattle.unification.specs.States.{Equation, State}
 use Rattle.unification.specs.Turns.{Goes, Trial, Turn, goes_to, type_in}
-use Rattle.unifier.specs.declared.built.Built.{Built}
+use Rattle.problems.specs.declared.built.Built.{Built}
 use Rattle.core_terms.specs.declared.term.Term as code
 use Rattle.kernel_reduce.proofs.SpineLengths.{spine_fits}
-use Rattle.unifier.proofs.BuiltCodes.{IsOf, from_code, of-built}
+use Rattle.problems.proofs.BuiltCodes.{IsOf, from_code, of-built}
 
 same-number : (x : ℕ) → (x == x) ≡ true
 same-number x = grind (arith, nat_tests)

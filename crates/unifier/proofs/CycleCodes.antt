@@ -12,13 +12,13 @@ use Rattle.core_terms.specs.declared.term.Term as code
 use Rattle.core_sig.specs.Meanings.{constructor_of}
 use Rattle.unification.specs.Built as pure
 use Rattle.unification.specs.Built.{built_of, is_direct}
-use Rattle.unifier.specs.CodeBuilt.{IsBuiltAs}
-use Rattle.unifier.specs.CodeCycles.{direct_among, direct_arguments, direct_in, go_below, is_direct_at, search_too_deep, search_within}
-use Rattle.unifier.specs.Conditions.{AreGiven, IsGiven}
-use Rattle.unifier.specs.declared.built.Built.{Built}
-use Rattle.unifier.proofs.BuiltCodes.{IsOf, from_code, of-built, of-pure}
-use Rattle.unifier.proofs.BuiltForms.{built-is}
-use Rattle.unifier.proofs.GivenTerms.{append-given, direct-given, drop-given, spine-given}
+use Rattle.problems.specs.CodeBuilt.{IsBuiltAs}
+use Rattle.problems.specs.CodeCycles.{direct_among, direct_arguments, direct_in, go_below, is_direct_at, search_too_deep, search_within}
+use Rattle.problems.specs.Conditions.{AreGiven, IsGiven}
+use Rattle.problems.specs.declared.built.Built.{Built}
+use Rattle.problems.proofs.BuiltCodes.{IsOf, from_code, of-built, of-pure}
+use Rattle.problems.proofs.BuiltForms.{built-is}
+use Rattle.problems.proofs.GivenTerms.{append-given, direct-given, drop-given, spine-given}
 use Rattle.unifier.proofs.WaitingTerms.{turns_in, below-all, below-fewer, search-deep}
 
 -- ---- direct arguments from the last one on

@@ -23,7 +23,7 @@ use Rattle.unification.specs.States.{State}
 use Rattle.unification.specs.Turns.{Turn, unless_found}
 use Rattle.unification.proofs.Memberships.{membership-is}
 use Rattle.unifier.specs.CodeGroups.{IsGroupOf, membership_from}
-use Rattle.unifier.specs.Conditions.{AreGiven, AreLow, most_levels}
+use Rattle.problems.specs.Conditions.{AreGiven, AreLow, most_levels}
 use Rattle.unifier.specs.declared.groups.Membership.{Membership as CodeMembership}
 use Rattle.unifier.proofs.GroupCodes.{spine-low, take-low}
 

@@ -22,14 +22,14 @@ use Rattle.unification.specs.Constructors.{heads, with_built, with_heads}
 use Rattle.unification.specs.Groups.{all_convertible, are_equations_of, group_turn, if_holds, on_membership}
 use Rattle.unification.specs.States.{Equation as PureEquation, State, types_as_they_stand}
 use Rattle.unification.specs.Turns.{Turn}
-use Rattle.unifier.specs.CodeBuilt.{AreOfOneFamily}
+use Rattle.problems.specs.CodeBuilt.{AreOfOneFamily}
 use Rattle.unifier.specs.CodeGroups.{IsGroupOf, has_places, membership_from}
 use Rattle.unifier.specs.declared.groups.Membership.{Membership}
-use Rattle.unifier.proofs.BuiltForms.{built-is}
-use Rattle.unifier.specs.Conditions.{AreLow}
-use Rattle.unifier.specs.Meanings.{equations_of}
-use Rattle.unifier.specs.declared.state.Equation.{Equation}
-use Rattle.unifier.proofs.CycleForms.{AreLower, spine-lower}
+use Rattle.problems.proofs.BuiltForms.{built-is}
+use Rattle.problems.specs.Conditions.{AreLow}
+use Rattle.problems.specs.Meanings.{equations_of}
+use Rattle.problems.specs.declared.state.Equation.{Equation}
+use Rattle.problems.proofs.CycleForms.{AreLower, spine-lower}
 
 -- ---- the lengths
 

@@ -34,16 +34,16 @@ use Rattle.unification.specs.ScopedStates.{IsReady, AreScopedEquations}
 use Rattle.unification.specs.States.{Equation, State, left_sides, right_sides, types_as_they_stand}
 use Rattle.unification.proofs.ScopedRecords.{family_items-scoped}
 use Rattle.unifier.specs.CodeGroups.{IsGroupOf, membership_from}
-use Rattle.unifier.specs.Conditions.{AreBehind, AreGiven, AreLow, AreOver, HasFewVariables, HaveFewVariables, IsKept, most_depth, most_levels}
-use Rattle.unifier.specs.CodeBuilt.{sides_of, teles_of}
-use Rattle.unifier.specs.Meanings.{equation_of, equations_of, state_of}
+use Rattle.problems.specs.Conditions.{AreBehind, AreGiven, AreLow, AreOver, HasFewVariables, HaveFewVariables, IsKept, most_depth, most_levels}
+use Rattle.problems.specs.CodeBuilt.{sides_of, teles_of}
+use Rattle.problems.specs.Meanings.{equation_of, equations_of, state_of}
 use Rattle.unifier.specs.declared.groups.Membership.{Membership}
-use Rattle.unifier.specs.declared.state.Equation.{Equation as CodeEquation}
-use Rattle.unifier.specs.declared.state.State as code
-use Rattle.unifier.proofs.GivenTerms.{all-over}
-use Rattle.unifier.proofs.LowTerms.{low-terms}
-use Rattle.unifier.proofs.RecordSizes.{family-few, family-scoped, scoped-over}
-use Rattle.unifier.proofs.Rooms.{behind-few, room-kept}
+use Rattle.problems.specs.declared.state.Equation.{Equation as CodeEquation}
+use Rattle.problems.specs.declared.state.State as code
+use Rattle.problems.proofs.GivenTerms.{all-over}
+use Rattle.problems.proofs.LowTerms.{low-terms}
+use Rattle.problems.proofs.RecordSizes.{family-few, family-scoped, scoped-over}
+use Rattle.problems.proofs.Rooms.{behind-few, room-kept}
 
 -- ---- the telescope
 

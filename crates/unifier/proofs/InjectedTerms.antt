@@ -7,11 +7,11 @@ use Rattle.core_terms.specs.Meanings.{tele_of}
 use Rattle.core_terms.specs.declared.term.Term as code
 use Rattle.unification.specs.Built.{built_of}
 use Rattle.unification.specs.ScopedStates.{IsReady}
-use Rattle.unifier.specs.CodeBuilt.{IfThere, IsBuiltAs, IsInjected, IsKnown}
-use Rattle.unifier.specs.Conditions.{AreGiven, IsGiven}
-use Rattle.unifier.specs.declared.built.Built.{Built}
-use Rattle.unifier.proofs.BuiltCodes.{code-of, code-there}
-use Rattle.unifier.proofs.GivenTerms.{drop-given, spine-given}
+use Rattle.problems.specs.CodeBuilt.{IfThere, IsBuiltAs, IsInjected, IsKnown}
+use Rattle.problems.specs.Conditions.{AreGiven, IsGiven}
+use Rattle.problems.specs.declared.built.Built.{Built}
+use Rattle.problems.proofs.BuiltCodes.{code-of, code-there}
+use Rattle.problems.proofs.GivenTerms.{drop-given, spine-given}
 
 -- the constructor is one of the signature in which it was found
 pub known-of : (S : Signature) (t : Term) (b : Built) → IsReady S → IfThere (IsBuiltAs b) (built_of S t) → IsKnown b

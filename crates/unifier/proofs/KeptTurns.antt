@@ -10,9 +10,9 @@ use Rattle.unification.specs.States.{Equation, State}
 use Rattle.unification.specs.Strategy.{turn_of}
 use Rattle.unification.specs.Turns as turns
 use Rattle.unification.specs.Turns.{Done, Goes, Fails, Sticks}
-use Rattle.unifier.specs.Conditions.{IsKept, LeadsOn, LeadsToRoom, most_levels}
-use Rattle.unifier.specs.Meanings as code
-use Rattle.unifier.specs.declared.turn.Turn.{Turn}
+use Rattle.problems.specs.Conditions.{IsKept, LeadsOn, LeadsToRoom, most_levels}
+use Rattle.problems.specs.Meanings as code
+use Rattle.problems.specs.declared.turn.Turn.{Turn}
 
 -- an equation that is scoped over fewer variables
 pub equation-more : (S : Signature) (n : ℕ) (e : Equation) → n ≤ most_levels → IsScopedEquation S n 0 e → IsScopedEquation S most_levels 0 e

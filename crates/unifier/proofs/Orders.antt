@@ -5,11 +5,11 @@ use Rattle.theory.specs.Telescopes.{Telescope}
 use Rattle.core_terms.specs.Meanings.{tree_of, tele_of}
 use Rattle.core_terms.specs.declared.term.Term as code
 use Rattle.unification.proofs.SolvedContexts.{length-order}
-use Rattle.unifier.specs.Conditions.{AreBelow}
+use Rattle.problems.specs.Conditions.{AreBelow}
 use Rattle.tele_eq.specs.Items.{each_position}
 use Rattle.tele_eq.specs.Levels.{has_level, place_in, is_among}
 use Rattle.unification.specs.Occurrences.{dependants_from, dependants, without, order_without}
-use Rattle.unifier.proofs.LowTerms.{slice-from, map-drop}
+use Rattle.problems.proofs.LowTerms.{slice-from, map-drop}
 
 -- the dependants, found in the types after the variable
 pub dependants-sliced : (made found : List ℕ) (p : ℕ) (context : List code.Term) → made ≡ [] → found ≡ p ∷ []

@@ -8,9 +8,9 @@ use Rattle.unification.specs.Runs.{end_of}
 use Rattle.unification.specs.States.{State}
 use Rattle.unification.specs.Turns.{Turn, Done, Goes, Fails, Sticks}
 use Rattle.unification.specs.declared.why.Why.{Why}
-use Rattle.unifier.specs.Meanings.{turn_of}
-use Rattle.unifier.specs.declared.turn.Turn as code
-use Rattle.unifier.specs.declared.turn.Turn.TheVariants as variant
+use Rattle.problems.specs.Meanings.{turn_of}
+use Rattle.problems.specs.declared.turn.Turn as code
+use Rattle.problems.specs.declared.turn.Turn.TheVariants as variant
 
 absurd-behind : (steps more : List Step) (context : Telescope) (u v : Term) → behind_steps steps (Absurd more context u v) ≡ Absurd (steps ++ more) context u v
 absurd-behind [] more context u v = refl

@@ -11,10 +11,10 @@ use Rattle.unification.specs.Moving.{over_first, behind, moved}
 use Rattle.unification.specs.Occurrences.{order_without}
 use Rattle.unification.specs.Solving.{solved_state, deleted_state}
 use Rattle.unification.specs.States.{Equation, State}
-use Rattle.unifier.specs.CodeMoves.{state_with}
-use Rattle.unifier.specs.Meanings.{equations_of}
-use Rattle.unifier.specs.declared.state.Equation as equation
-use Rattle.unifier.specs.declared.moving.Solution.{Solution}
+use Rattle.problems.specs.CodeMoves.{state_with}
+use Rattle.problems.specs.Meanings.{equations_of}
+use Rattle.problems.specs.declared.state.Equation as equation
+use Rattle.problems.specs.declared.moving.Solution.{Solution}
 
 -- the state after a deletion, from equations that are moved
 pub deleted-is : (s : State) (i : ℕ) (A u : Term) (n : ℕ) (items types : Environment) (here proof : List Term) (rest equations : List Equation)

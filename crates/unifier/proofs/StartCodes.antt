@@ -17,10 +17,10 @@ use Rattle.unification.specs.Heights.{are_low_equations, bounded_state, equation
 use Rattle.unification.specs.Runs.{unify_of}
 use Rattle.unification.specs.ScopedStates.{IsReady, IsScopedProblem, IsScopedOutcome, IsScopedState}
 use Rattle.unification.specs.States.{State, Problem, starting}
-use Rattle.unifier.specs.Conditions.{HasFewVariables, HaveFewVariables, IsKept, most_levels}
-use Rattle.unifier.specs.Meanings.{outcome_of, problem_of}
-use Rattle.unifier.specs.declared.outcome.Outcome.{Outcome}
-use Rattle.unifier.specs.declared.problem.Problem as code
+use Rattle.problems.specs.Conditions.{HasFewVariables, HaveFewVariables, IsKept, most_levels}
+use Rattle.problems.specs.Meanings.{outcome_of, problem_of}
+use Rattle.problems.specs.declared.outcome.Outcome.{Outcome}
+use Rattle.problems.specs.declared.problem.Problem as code
 
 -- ---- few variables
 

@@ -13,11 +13,11 @@ use Rattle.kernel_reduce.specs.WellScoped.{CanReduce}
 use Rattle.unification.specs.ScopedStates.{IsReady}
 use Rattle.unification.specs.Turns.{tidied, type_in}
 use Rattle.core_terms.specs.Meanings.{tree_of}
-use Rattle.unifier.specs.Conditions.{IsGiven, IsKept}
-use Rattle.unifier.specs.Meanings.{equation_of, state_of}
-use Rattle.unifier.specs.declared.state.Equation.{Equation as CodeEquation}
-use Rattle.unifier.specs.declared.state.State as code
-use Rattle.unifier.proofs.GivenTerms.{code-equation}
+use Rattle.problems.specs.Conditions.{IsGiven, IsKept}
+use Rattle.problems.specs.Meanings.{equation_of, state_of}
+use Rattle.problems.specs.declared.state.Equation.{Equation as CodeEquation}
+use Rattle.problems.specs.declared.state.State as code
+use Rattle.problems.proofs.GivenTerms.{code-equation}
 
 -- both terms tidied
 pub tidied-scoped : (S : Signature) (n : ℕ) (u v u' v' : Term) (left rest : ℕ) → IsScopedSignature S → IsScoped S n u → IsScoped S n v

@@ -8,8 +8,8 @@ use Rattle.unification.specs.Groups.{group_trials}
 use Rattle.unification.specs.States.{State}
 use Rattle.unification.specs.Strategy.{first_trials, trials}
 use Rattle.unification.specs.Turns.{Trial, Turn, or_else, unless_found}
-use Rattle.unifier.specs.Meanings.{equation_of, equations_of}
-use Rattle.unifier.specs.declared.state.Equation.{Equation}
+use Rattle.problems.specs.Meanings.{equation_of, equations_of}
+use Rattle.problems.specs.declared.state.Equation.{Equation}
 
 pub or-refused : (first second : Trial) (left end : ℕ) (x : Stop) → ◌≡◌ {A = Spent (Option Turn)} (Err x, end) (first left) → ◌≡◌ {A = Spent (Option Turn)} (Err x, end) (or_else first second left)
 or-refused first second left end x h = ap (λ r. and_next r (λ turn rest. unless_found turn second rest)) h

@@ -12,14 +12,13 @@ use Rattle.unification.specs.Built.{Built, built_of, is_direct}
 use Rattle.unification.specs.Runs.{size_of}
 use Rattle.unification.specs.Solutions.{variable_in}
 use Rattle.unification.specs.Cycles.{Search, found_as, here_or, among_arguments, with_arguments, below_constructor, is_variable, search_in}
-use Rattle.unifier.specs.CodeCycles.{within, search_within, search_each, search_too_deep, direct_among, direct_arguments, go_below}
-use Rattle.unification.proofs.Sizes.{built-smaller}
+use Rattle.problems.specs.CodeCycles.{within, search_within, search_each, search_too_deep, direct_among, direct_arguments, go_below}
+use Rattle.unification.proofs.Sizes.{built-smaller, size_of_all, size-positive}
 use Rattle.unification.proofs.Reducts.{IsHead, whnf-within}
 use Rattle.unification.proofs.SearchLaws.{search-goes_on}
-use Rattle.unification.proofs.Sizes.{size_of_all, size-positive}
 use Rattle.unification.proofs.SpentUnits.{Leaves}
 use Rattle.unification.proofs.Cases.{less-or_same}
-use Rattle.unifier.proofs.CycleForms.{bounded_by, whole, mapped, found-twice, form-variable, form-other, search-below, positive}
+use Rattle.problems.proofs.CycleForms.{bounded_by, whole, mapped, found-twice, form-variable, form-other, search-below, positive}
 
 -- ---- the search ends
 

@@ -1,13 +1,13 @@
 -- Groups of equations as the code finds them.
-use Rattle.std.specs.Prelude.{◌≡◌, ◌≤◌, ℕ, ◌+◌, ◌-◌, nat_lt, Bool, ◌==◌, ◌&&◌, cond, Some, List, length}
-use Rattle.theory.specs.Terms.{Term, Var, Pi, Lam, App, Let}
+use Rattle.std.specs.Prelude.{◌≡◌, ◌≤◌, ℕ, ◌+◌, ◌-◌, Bool, ◌==◌, ◌&&◌, Some, List, length}
+use Rattle.theory.specs.Terms.{Term}
 use Rattle.theory.specs.Families.{Family}
 use Rattle.theory.specs.Signatures.{Signature}
 use Rattle.core_terms.specs.Meanings.{tele_of}
 use Rattle.core_sig.specs.Kinds.{HasKinds}
 use Rattle.kernel_reduce.specs.Entries.{family_at}
 use Rattle.unification.specs.Built.{is_fitting}
-use Rattle.unifier.specs.Conditions.{AreGiven}
+use Rattle.problems.specs.Conditions.{AreGiven}
 use Rattle.core_sig.specs.Meanings.{family_of}
 use Rattle.unification.specs.Groups as pure
 use Rattle.unifier.specs.declared.groups.Membership.{Membership}
@@ -27,12 +27,3 @@ pub record IsGroupOf (S : Signature) (n k : ℕ) (m : Membership) : Type 0 where
   pub few : k ≤ 2000
   pub count : length m.params ≡ length m.record.now.params
   pub parameters : AreGiven S n (tele_of m.params)
-
--- a term without the nearest k variables, under so many binders of its own
-abbrev pub lowered_under : (k under : ℕ) → Term → Term
-lowered_under k under (Var n) = Var (cond (nat_lt n under) n (n - under - k + under))
-lowered_under k under (Pi a b) = Pi (lowered_under k under a) (lowered_under k (under + 1) b)
-lowered_under k under (Lam a b) = Lam (lowered_under k under a) (lowered_under k (under + 1) b)
-lowered_under k under (App f a) = App (lowered_under k under f) (lowered_under k under a)
-lowered_under k under (Let a t b) = Let (lowered_under k under a) (lowered_under k under t) (lowered_under k (under + 1) b)
-lowered_under k under t = t

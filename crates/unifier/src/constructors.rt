@@ -1,25 +1,24 @@
 ghost use Rattle.std.specs.Prelude.{◌≡◌, ◌≤◌, ◌<◌, ◌+◌, ℕ, option_map, IfOk, IfSome, IsTrue, slice_get, Some, Ok, ◌∷◌, [], take, length, drop};
 ghost use Rattle.core_terms.specs.Answers.{Gives, Runs};
 ghost use Rattle.unification.specs.Constructors as spec;
-ghost use Rattle.unifier.specs.Meanings.{equation_of, state_of, turn_of};
-ghost use Rattle.unifier.specs.Conditions.{HasRoom, IsGiven, IsKept, LeadsToRoomWhere, most_levels};
+ghost use Rattle.problems.specs.Meanings.{equation_of, state_of, turn_of};
+ghost use Rattle.problems.specs.Conditions.{HasRoom, IsGiven, IsKept, LeadsToRoomWhere, most_levels};
 ghost use Rattle.unification.specs.Built.{built_of};
 ghost use Rattle.unification.specs.Built as spec_built;
-ghost use Rattle.unifier.specs.CodeBuilt.{AreOfOneFamily, IsBuiltAs, IsInjected, fits_of};
+ghost use Rattle.problems.specs.CodeBuilt.{AreOfOneFamily, IsBuiltAs, IsInjected};
+ghost use Rattle.unifier.specs.CodeFits.{fits_of};
 ghost use Rattle.theory.specs.Spines.{spine_of};
 ghost use Rattle.core_terms.specs.Meanings.{tree_of, tele_of};
 ghost use Rattle.unification.specs.ScopedStates.{IsReady};
 ghost use Rattle.core_sig.specs.Meanings.{constructor_of, family_of};
 ghost use Rattle.unification.specs.Heights.{injection_made};
 
-use crate::built::{Built, built_of, has_no_indices, is_fitting, split_spine};
 use crate::injecting::inject;
-use crate::state::{Equation, State};
 use crate::trials::{fails, single, type_in};
-use crate::turn::Turn;
 use core_sig::Signature;
 use core_terms::{Rule, Stop, Tele, Term};
 use kernel_check::Kernel;
+use problems::{Built, Equation, State, Turn, built_of, has_no_indices, is_fitting, split_spine};
 use std::alloc::Global;
 
 /// Which constructors a trial is for: of a family that no confusion can be made of, or of one family.

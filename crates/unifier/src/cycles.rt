@@ -2,27 +2,26 @@ ghost use Rattle.std.specs.Prelude.{◌≡◌, ◌≤◌, ◌<◌, ◌+◌, ◌+
 ghost use Rattle.core_terms.specs.Answers.{Gives, Runs};
 ghost use Rattle.core_terms.specs.Meanings.{tree_of, tele_of};
 ghost use Rattle.unification.specs.Cycles as spec;
-ghost use Rattle.unifier.specs.Meanings.{equation_of, turn_of};
+ghost use Rattle.problems.specs.Meanings.{equation_of, turn_of};
 ghost use Rattle.theory.specs.Terms as tree;
 ghost use Rattle.core_terms.specs.Bounds.{most_height};
-ghost use Rattle.unifier.specs.Conditions.{most_levels};
+ghost use Rattle.problems.specs.Conditions.{most_levels, AreGiven, IsGiven};
 ghost use Rattle.unification.specs.ScopedStates.{IsReady, IsScopedEquation};
-ghost use Rattle.unifier.specs.Conditions.{AreGiven, IsGiven};
 ghost use Rattle.core_sig.specs.Meanings.{argument_of};
 ghost use Rattle.unification.specs.Built as spec_built;
-ghost use Rattle.unifier.specs.CodeBuilt.{IsBuiltAs};
-ghost use Rattle.unifier.specs.CodeCycles as code;
+ghost use Rattle.problems.specs.CodeBuilt.{IsBuiltAs};
+ghost use Rattle.problems.specs.CodeCycles as code;
 ghost use Rattle.unification.specs.Solutions.{variable_in};
 ghost use Rattle.unification.specs.Turns as turns;
 
-use crate::built::{Built, built_of, has_no_indices, is_direct, is_fitting, split_spine};
-use crate::solutions::variable_in;
-use crate::state::Equation;
 use crate::trials::{fails, single, type_in};
-use crate::turn::Turn;
 use core_sig::{Arg, Signature};
 use core_terms::{MAX_HEIGHT, Rule, Stop, Term, applied, copy_whole};
 use kernel_check::Kernel;
+use problems::{
+    Built, Equation, Turn, built_of, has_no_indices, is_direct, is_fitting, split_spine,
+    variable_in,
+};
 use std::alloc::Global;
 
 /// Whether acyclicity is made for the constructor's family.

@@ -1,18 +1,17 @@
 ghost use Rattle.std.specs.Prelude.{◌≡◌, ◌≤◌, ◌+◌, option_map, IfOk, slice_get, Some};
 ghost use Rattle.core_terms.specs.Answers.{Runs};
 ghost use Rattle.unification.specs.Deletions as spec;
-ghost use Rattle.unifier.specs.Meanings.{equation_of, state_of, turn_of};
-ghost use Rattle.unifier.specs.Conditions.{IsKept, LeadsToRoomWhere};
+ghost use Rattle.problems.specs.Meanings.{equation_of, state_of, turn_of};
+ghost use Rattle.problems.specs.Conditions.{IsKept, LeadsToRoomWhere};
 ghost use Rattle.unification.specs.ScopedStates.{IsReady};
 
 use crate::Why;
 use crate::solving::delete;
-use crate::state::{Equation, State};
 use crate::trials::{single, sticks, tidied, type_in};
-use crate::turn::Turn;
 use core_sig::Signature;
 use core_terms::{Rule, Stop};
 use kernel_check::Kernel;
+use problems::{Equation, State, Turn};
 use std::alloc::Global;
 
 /// Deletion of the first equation, which needs K.

@@ -2,11 +2,11 @@ ghost use Rattle.std.specs.Prelude.{◌≡◌, ◌+◌, ◌++◌, Ok, Some, opti
 ghost use Rattle.core_terms.specs.Answers.{Gives, Runs};
 ghost use Rattle.core_terms.specs.Meanings.{tree_of, tele_of};
 ghost use Rattle.unification.specs.Groups as spec;
-ghost use Rattle.unifier.specs.Meanings.{equation_of, equations_of, state_of, turn_of};
+ghost use Rattle.problems.specs.Meanings.{equation_of, equations_of, state_of, turn_of};
 ghost use Rattle.unification.specs.States as states;
-ghost use Rattle.unifier.specs.Conditions.{AreGiven, AreLow, IsGiven, IsKept, LeadsToRoomWhere, most_levels};
+ghost use Rattle.problems.specs.Conditions.{AreGiven, AreLow, IsGiven, IsKept, LeadsToRoomWhere, most_levels};
 ghost use Rattle.unification.specs.ScopedStates.{IsReady};
-ghost use Rattle.unifier.specs.CodeBuilt.{AreOfOneFamily, sides_of, teles_of};
+ghost use Rattle.problems.specs.CodeBuilt.{AreOfOneFamily, sides_of, teles_of};
 ghost use Rattle.unification.specs.Built as spec_built;
 ghost use Rattle.unification.specs.Constructors.{with_built};
 ghost use Rattle.kernel_reduce.specs.Entries.{family_at};
@@ -16,19 +16,18 @@ ghost use Rattle.core_sig.specs.Kinds.{HasKinds};
 ghost use Rattle.theory.specs.Terms as tree;
 ghost use Rattle.theory.specs.Spines.{spine_of};
 ghost use Rattle.core_terms.specs.Bounds.{most_height};
-ghost use Rattle.unifier.specs.CodeGroups.{IsGroupOf, has_places, lowered_under, membership_from};
+ghost use Rattle.unifier.specs.CodeGroups.{IsGroupOf, has_places, membership_from};
+ghost use Rattle.problems.specs.CodeLowering.{lowered_under};
 
-use crate::built::{built_of, is_fitting, split_spine};
 use crate::constructors::{Fits, heads, inject_sides};
-use crate::heights::equations_made;
-use crate::records::family_items;
-use crate::state::{Equation, State};
 use crate::trials::fails;
-use crate::turn::Turn;
 use core_sig::{Family, Signature};
 use core_terms::{Items, Rule, Step, Stop, Tele, Term, copy_whole, head, spine_len};
 use kernel_check::Kernel;
 use kernel_reduce::family;
+use problems::{
+    Equation, State, Turn, built_of, equations_made, family_items, is_fitting, split_spine,
+};
 use std::alloc::Global;
 use tele_eq::has_variable;
 

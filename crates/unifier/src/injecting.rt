@@ -3,10 +3,10 @@ ghost use Rattle.core_terms.specs.Answers.{Gives, bounded_terms};
 ghost use Rattle.core_terms.specs.Meanings.{tele_of};
 ghost use Rattle.core_sig.specs.Meanings.{constructor_of, family_of};
 ghost use Rattle.unification.specs.Heights as spec;
-ghost use Rattle.unifier.specs.Meanings.{equations_of, state_of};
-ghost use Rattle.unifier.specs.CodeBuilt.{IsInjected, IsKnown};
-ghost use Rattle.unifier.specs.Conditions.{AreOver, ArePlaces, ArePut, HasRoom, most_depth, most_levels};
-ghost use Rattle.unifier.specs.CodeMoves.{environment_of};
+ghost use Rattle.problems.specs.Meanings.{equations_of, state_of};
+ghost use Rattle.problems.specs.CodeBuilt.{IsInjected, IsKnown};
+ghost use Rattle.problems.specs.Conditions.{AreOver, ArePlaces, ArePut, HasRoom, most_depth, most_levels};
+ghost use Rattle.problems.specs.CodeMoves.{environment_of};
 ghost use Rattle.unification.specs.Moving.{behind, over_first};
 ghost use Rattle.core_terms.specs.Levels.{variable};
 ghost use Rattle.tele_eq.specs.Congruences.{congruences};
@@ -16,15 +16,14 @@ ghost use Rattle.core_terms.specs.Bounds.{most_height};
 ghost use Rattle.tele_eq.specs.TelescopicEquality.{equations};
 ghost use Rattle.unification.specs.Records.{argument_items as argument_items_of};
 ghost use Rattle.unification.specs.Injecting as injecting;
-ghost use Rattle.unifier.specs.CodeInjections.{equations_joined, group_made_behind, injected_rest};
+ghost use Rattle.problems.specs.CodeInjections.{equations_joined, group_made_behind, injected_rest};
 
-use crate::built::Built;
-use crate::heights::{equations_made, with_equations};
-use crate::moving::{Behind, Places, Sides, moved};
-use crate::records::{argument_items, constructor_terms, family_items, lifted};
-use crate::state::{Equation, State, equations_at};
 use core_sig::Constructor;
 use core_terms::{Items, Stop, Tele, Term};
+use problems::{
+    Behind, Built, Equation, Places, Sides, State, argument_items, constructor_terms, equations_at,
+    equations_made, family_items, lifted, moved, with_equations,
+};
 use std::alloc::Global;
 use tele_eq::{Item, cong, variables};
 

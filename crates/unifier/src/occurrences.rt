@@ -6,7 +6,7 @@ ghost use Rattle.tele_eq.specs.Levels as levels;
 ghost use Rattle.theory.specs.Terms as tree;
 ghost use Rattle.core_terms.specs.Bounds.{context_limit, most_height};
 ghost use Rattle.unification.specs.Occurrences as spec;
-ghost use Rattle.unifier.specs.Conditions.{AreLow};
+ghost use Rattle.problems.specs.Conditions.{AreLow};
 
 use core_terms::{Stop, Term};
 use std::alloc::Global;

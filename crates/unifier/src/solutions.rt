@@ -1,9 +1,9 @@
 ghost use Rattle.std.specs.Prelude.{◌≡◌, ◌≤◌, ◌<◌, ◌+◌, length, option_map, IfOk, IfSome, IsTrue, slice_get, Some, Ok, ◌-◌};
 ghost use Rattle.core_terms.specs.Answers.{Gives, Runs};
 ghost use Rattle.core_terms.specs.Meanings.{tree_of, tele_of};
-ghost use Rattle.unifier.specs.Meanings.{equation_of, state_of, turn_of};
+ghost use Rattle.problems.specs.Meanings.{equation_of, state_of, turn_of};
 ghost use Rattle.unification.specs.Solutions as spec;
-ghost use Rattle.unifier.specs.Conditions.{AreLow, HasRoom, IsGiven, IsKept, IsOver, IsRoomy, LeadsToRoomWhere};
+ghost use Rattle.problems.specs.Conditions.{AreLow, HasRoom, IsGiven, IsKept, IsOver, IsRoomy, LeadsToRoomWhere};
 ghost use Rattle.theory.specs.Terms as tree;
 ghost use Rattle.core_terms.specs.Bounds.{most_height};
 ghost use Rattle.unification.specs.Occurrences as occurrences;
@@ -11,22 +11,11 @@ ghost use Rattle.unification.specs.ScopedStates.{IsReady};
 
 use crate::occurrences::{dependants, lacks};
 use crate::solving::solve;
-use crate::state::{Equation, State};
 use crate::trials::{single, tidied, type_in};
-use crate::turn::Turn;
 use core_terms::{Rule, Stop, Term, copy_whole};
 use kernel_check::Kernel;
+use problems::{Equation, State, Turn, variable_in};
 use std::alloc::Global;
-
-/// The number of a variable.
-pub fn variable_in(t: &Term) -> Option<u32>
-    ensures { result ≡ spec.variable_in (tree_of t.now) }
-{
-    match t {
-        Term::Var(x) => Some(*x),
-        _ => None,
-    }
-}
 
 /// The level of a variable in a context of `n` variables.
 fn level_of(n: u32, x: u32) -> u32

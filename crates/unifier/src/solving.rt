@@ -4,20 +4,21 @@ ghost use Rattle.core_terms.specs.Meanings.{tree_of, tele_of};
 ghost use Rattle.theory.specs.Signatures as signatures;
 ghost use Rattle.theory.specs.Terms as tree;
 ghost use Rattle.tele_eq.specs.Environments as environments;
-ghost use Rattle.unifier.specs.CodeMoves.{environment_of, solved_environment, solved_equations, state_with, variables_of};
+ghost use Rattle.problems.specs.CodeMoves.{environment_of, solved_environment, solved_equations, state_with, variables_of};
 ghost use Rattle.unification.specs.Heights.{bounded_state};
-ghost use Rattle.unifier.specs.Meanings.{equations_of, state_of};
+ghost use Rattle.problems.specs.Meanings.{equations_of, state_of};
 ghost use Rattle.unification.specs.Occurrences as occurrences;
 ghost use Rattle.unification.specs.Solving as spec;
-ghost use Rattle.unifier.specs.Conditions.{AreBelow, ArePlaces, ArePut, AreTypesOver, HasRoom, IsOver, IsPossible, IsSolution, most_depth, most_levels};
+ghost use Rattle.problems.specs.Conditions.{AreBelow, ArePlaces, ArePut, AreTypesOver, HasRoom, IsOver, IsPossible, IsSolution, most_depth, most_levels};
 ghost use Rattle.unification.specs.Moving.{behind, over_first};
 
-use crate::heights::{checked_state, with_equations};
-use crate::moving::{Behind, Places, Sides, Solution, moved, put, put_terms};
 use crate::occurrences::order_without;
-use crate::state::{Equation, State};
 use core_sig::equality;
 use core_terms::{Items, Stop, Tele, Term, copy_whole};
+use problems::{
+    Behind, Equation, Places, Sides, Solution, State, checked_state, moved, put, put_terms,
+    with_equations,
+};
 use std::alloc::Global;
 
 /// refl.i A a.

@@ -1,23 +1,20 @@
 ghost use Rattle.std.specs.Prelude.{◌≡◌, ◌≤◌, ◌+◌, Some};
 ghost use Rattle.core_terms.specs.Answers.{Runs};
 ghost use Rattle.core_terms.specs.Meanings.{tree_of};
-ghost use Rattle.unifier.specs.Meanings.{equation_of, turn_of};
+ghost use Rattle.problems.specs.Meanings.{equation_of, turn_of};
 ghost use Rattle.unification.specs.Sticking as spec;
 ghost use Rattle.theory.specs.Terms as tree;
 ghost use Rattle.core_terms.specs.Bounds.{most_height};
-ghost use Rattle.unifier.specs.Conditions.{most_levels};
+ghost use Rattle.problems.specs.Conditions.{most_levels};
 ghost use Rattle.unification.specs.ScopedStates.{IsReady, IsScopedEquation};
 ghost use Rattle.unification.specs.Built.{built_of};
 
 use crate::Why;
-use crate::built::{built_of, has_no_indices};
-use crate::solutions::variable_in;
-use crate::state::Equation;
 use crate::trials::tidied;
-use crate::turn::Turn;
 use core_sig::Signature;
 use core_terms::{Stop, Term};
 use kernel_check::Kernel;
+use problems::{Equation, Turn, built_of, has_no_indices, variable_in};
 use tele_eq::has_variable;
 
 fn why_variable(x: u32, other: &Term) -> Why

@@ -1,8 +1,8 @@
 ghost use Rattle.std.specs.Prelude.{◌≡◌, ◌≤◌, ◌+◌, IfOk, slice_get, Some};
 ghost use Rattle.core_terms.specs.Answers.{Runs};
-ghost use Rattle.unifier.specs.Meanings.{equation_of, state_of, turn_of};
+ghost use Rattle.problems.specs.Meanings.{equation_of, state_of, turn_of};
 ghost use Rattle.unification.specs.Strategy as spec;
-ghost use Rattle.unifier.specs.Conditions.{IsKept, LeadsOn, LeadsToRoom};
+ghost use Rattle.problems.specs.Conditions.{IsKept, LeadsOn, LeadsToRoom};
 ghost use Rattle.unification.specs.ScopedStates.{IsReady};
 
 use crate::constructors::constructor_trial;
@@ -10,12 +10,11 @@ use crate::cycles::cycle_trial;
 use crate::deletions::deletion_trial;
 use crate::groups::group_trials;
 use crate::solutions::solution_trial;
-use crate::state::{Equation, State};
 use crate::sticking::stuck;
-use crate::turn::Turn;
 use core_sig::Signature;
 use core_terms::Stop;
 use kernel_check::Kernel;
+use problems::{Equation, State, Turn};
 use std::alloc::Global;
 
 /// The rules for the first equation, in their order.

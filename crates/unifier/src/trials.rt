@@ -5,15 +5,15 @@ ghost use Rattle.core_terms.specs.Answers.{Gives, Runs};
 ghost use Rattle.core_terms.specs.Bounds.{most_height};
 ghost use Rattle.core_terms.specs.Meanings.{tree_of};
 ghost use Rattle.core_terms.specs.TreeMeanings.{step_of};
-ghost use Rattle.unifier.specs.Meanings.{turn_of};
+ghost use Rattle.problems.specs.Meanings.{turn_of};
 ghost use Rattle.unification.specs.Turns as spec;
-ghost use Rattle.unifier.specs.Conditions.{IsGiven, most_levels};
+ghost use Rattle.problems.specs.Conditions.{IsGiven, most_levels};
 ghost use Rattle.unification.specs.ScopedStates.{IsReady};
 
 use crate::Why;
-use crate::turn::Turn;
 use core_terms::{Rule, Step, Stop, Term, copy_whole};
 use kernel_check::Kernel;
+use problems::Turn;
 use std::alloc::Global;
 
 /// A step whose rule works on one equation.

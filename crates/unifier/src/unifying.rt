@@ -1,20 +1,18 @@
 ghost use Rattle.std.specs.Prelude.{◌≡◌, ◌≤◌, ◌<◌, ◌+◌, IfOk, length, Some, Ok};
 ghost use Rattle.core_terms.specs.Answers.{Gives, Runs};
 ghost use Rattle.core_terms.specs.Bounds.{context_limit};
-ghost use Rattle.unifier.specs.Meanings.{outcome_of, problem_of, state_of, turn_of};
+ghost use Rattle.problems.specs.Meanings.{outcome_of, problem_of, state_of, turn_of};
 ghost use Rattle.unification.specs.Runs as spec;
 ghost use Rattle.unification.specs.ScopedStates.{IsReady, IsScopedOutcome, IsScopedProblem};
-ghost use Rattle.unifier.specs.Conditions.{IsKept};
+ghost use Rattle.problems.specs.Conditions.{IsKept};
 ghost use Rattle.core_terms.specs.TreeMeanings.{steps_of};
 ghost use Rattle.unification.specs.Outcomes as outcomes;
 
-use crate::state::{State, start};
 use crate::strategy::turn;
-use crate::turn::Turn;
-use crate::{Outcome, Problem};
 use core_sig::Signature;
 use core_terms::{Items, Step, Stop, Units};
 use kernel_check::Kernel;
+use problems::{Outcome, Problem, State, Turn, start};
 use std::alloc::Global;
 
 /// The outcome of the run from a state on.

@@ -31,7 +31,8 @@ use Rattle.case_trees.specs.Stops.{TreeStop}
 use Rattle.tree_translation.specs.Plans.{Part, Plan}
 use Rattle.tree_translation.specs.Recursion.{recursion_of}
 use Rattle.tree_translation.specs.RightSides.{is_helper}
-use Rattle.clause_reports.specs.Equations.{Equation, Site, all_shown, equation_of, in_signature, last_argument, left_side, number_of, own_number, part_at, part_named, pats_of, right_side, side_of, walk_site}
+use Rattle.clause_reports.specs.Equations.{Equation, Site, all_shown, equation_of, in_signature, last_argument, left_side, number_of, own_number, part_at, pats_of, right_side, side_of, walk_site}
+use Rattle.tree_translation.specs.Naming.{part_named}
 use Rattle.clause_reports.specs.Reports.{some_absurd}
 use Rattle.written_functions.specs.Fitting.{AllFit}
 use Rattle.clause_reports.specs.elaboration.Walking.{Opened, Opening, Walked, helper_arguments, helper_terms, opened}

@@ -13,7 +13,8 @@ use Rattle.surface_syntax.specs.declared.tree.Word.{Word}
 use Rattle.elab_session.proofs.Resolved.{prelude-stays}
 use Rattle.elab_session.specs.Sessions.{IsReady}
 use Rattle.tree_translation.specs.Plans.{Plan, Part, own_part}
-use Rattle.clause_reports.specs.Equations.{part_named, part_at}
+use Rattle.clause_reports.specs.Equations.{part_at}
+use Rattle.tree_translation.specs.Naming.{part_named}
 use Rattle.theory.proofs.Lists.{slice_get-last}
 use Rattle.clause_reports.proofs.Keeping.{Grows, grows_on, weaker, weaker-of-two, grows_same}
 use Rattle.clause_reports.specs.elaboration.Functions.{Lines, enter_plan, function_level, function_of, plan_of, planned_of, report_parts, first_domains, recursion_in}

@@ -14,12 +14,12 @@ use Rattle.core_text.proofs.NamesFound.{definition-found}
 use Rattle.family_check.specs.Entering.{Entered}
 use Rattle.tree_translation.proofs.Drafting.{in_order-is}
 use Rattle.tree_translation.specs.Entries.{motive_entry, step_entry}
-use Rattle.tree_translation.specs.Naming.{Naming, drafted_in_order, motive_name, step_name}
+use Rattle.tree_translation.specs.Naming.{Naming, drafted_in_order, motive_name, step_name, part_named}
 use Rattle.tree_translation.specs.Plans.{Plan}
 use Rattle.tree_translation.specs.Recursion.{Recursion}
 use Rattle.clause_reports.proofs.Keeping.{Any, any, weaker}
 use Rattle.clause_reports.specs.DraftEntering.{enter_all, enter_draft_of, enter_entry, enter_needed, mentioned}
-use Rattle.clause_reports.specs.Equations.{number_of, part_named}
+use Rattle.clause_reports.specs.Equations.{number_of}
 use Rattle.clause_reports.proofs.ProvedTypes.{enter_entry-there}
 use Rattle.written_functions.specs.Clauses.{FunctionAt, HasPart, part_type}
 use Rattle.written_functions.proofs.Proofs.{IsThere}

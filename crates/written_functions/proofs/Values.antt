@@ -14,10 +14,10 @@ use Rattle.theory.proofs.Shifts.{weaken_by-is_lift}
 use Rattle.theory.proofs.Widening.{prefix_keeps}
 use Rattle.case_trees.specs.Points.{under_solution}
 use Rattle.tree_translation.specs.Entries.{function_by_recursion, helper_node}
-use Rattle.tree_translation.specs.Naming.{Naming, below_name, helper_name, motive_name, rec_name, step_name}
+use Rattle.tree_translation.specs.Naming.{Naming, below_name, helper_name, motive_name, rec_name, step_name, part_named}
 use Rattle.tree_translation.specs.Plans.{Part, Plan, own_part}
 use Rattle.tree_translation.specs.Recursion.{Recursion, below_type, motive_at, parameters_at, recursion_of, remaining_positions, scrutinee_at, terms_at}
-use Rattle.clause_reports.specs.Equations.{last_argument, number_of, part_at, part_named, values_of_recursion}
+use Rattle.clause_reports.specs.Equations.{last_argument, number_of, part_at, values_of_recursion}
 use Rattle.clause_reports.specs.Generated.{all_name}
 use Rattle.clause_reports.specs.elaboration.Functions.{first_domains}
 use Rattle.clause_reports.specs.elaboration.Walking.{Opened}

@@ -14,7 +14,7 @@ use Rattle.core_terms.specs.Patterns.{Pats}
 use Rattle.case_trees.specs.OwnWalks.{own_walk_of}
 use Rattle.case_trees.specs.Points.{under_solution}
 use Rattle.case_trees.specs.Stops.{TreeStop}
-use Rattle.clause_reports.specs.Equations.{part_named}
+use Rattle.tree_translation.specs.Naming.{part_named}
 use Rattle.clause_reports.proofs.Keeping.{any}
 use Rattle.clause_reports.specs.elaboration.Refusals.{OfSide, Owner, answers, granted, or_ends, or_halts, owner_of, walking}
 use Rattle.clause_reports.specs.elaboration.Walking.{Given, Opened, Opening, Walked, helper_arguments, joined, open_over, opened, walk_clause, walk_clauses, walk_right}

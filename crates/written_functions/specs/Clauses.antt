@@ -16,7 +16,8 @@ use Rattle.tele_eq.specs.ReflexivityLaws.{EachConverts}
 use Rattle.case_trees.specs.OwnWalks.{own_walk_of}
 use Rattle.case_trees.specs.Places.{clause_at}
 use Rattle.case_trees.specs.Points.{under_solution}
-use Rattle.clause_reports.specs.Equations.{Equation, number_of, part_named, closed_type}
+use Rattle.clause_reports.specs.Equations.{Equation, number_of, closed_type}
+use Rattle.tree_translation.specs.Naming.{part_named}
 use Rattle.clause_reports.specs.Reports.{Line, Definitional, Proved, Shadowed, Absurd, some_absurd}
 use Rattle.clause_reports.specs.elaboration.Functions.{ClauseLine, after_domains, first_domains}
 use Rattle.function_session.specs.Laws.{inner, inner_right}

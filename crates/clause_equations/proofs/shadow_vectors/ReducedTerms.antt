@@ -13,12 +13,12 @@ use Rattle.kernel_reduce.specs.Reduction.{answered, most_variables}
 use Rattle.kernel_reduce.specs.WellScoped.{CanReduce}
 use Rattle.kernel_reduce.proofs.WellScoped.{scoped-all}
 use Rattle.unification.specs.Built.{built_of}
-use Rattle.unifier.specs.CodeBuilt.{IfThere, IsBuiltAs, split_of, teles_of}
-use Rattle.unifier.specs.declared.built.Built.{Built}
-use Rattle.unifier.proofs.BuiltCodes.{code-of, from_code, of-built, split-first, split-rest}
+use Rattle.problems.specs.CodeBuilt.{IfThere, IsBuiltAs, split_of, teles_of}
+use Rattle.problems.specs.declared.built.Built.{Built}
+use Rattle.problems.proofs.BuiltCodes.{code-of, from_code, of-built, split-first, split-rest}
 use Rattle.case_trees.specs.pattern_vectors.Matching.{is_constructor}
 use Rattle.case_trees.specs.Kept.{at_arguments}
-use Rattle.clause_walks.proofs.BuiltPairs.{arguments-scoped}
+use Rattle.problems.proofs.BuiltArguments.{arguments-scoped}
 use Rattle.clause_reports.specs.Shadows.{all_reduced, reduced_arguments}
 use Rattle.clause_equations.specs.shadow_vectors.CodeVectors.{onto}
 

@@ -8,7 +8,7 @@ ghost use Rattle.theory.specs.Terms as tree;
 ghost use Rattle.core_terms.specs.Bounds.{most_height};
 ghost use Rattle.kernel_reduce.specs.WellScoped.{AreScoped, CanReduce};
 ghost use Rattle.unification.specs.Built as built;
-ghost use Rattle.unifier.specs.CodeBuilt.{IfThere, IsBuiltAs};
+ghost use Rattle.problems.specs.CodeBuilt.{IfThere, IsBuiltAs};
 ghost use Rattle.case_trees.specs.pattern_vectors.Matching.{is_constructor};
 ghost use Rattle.clause_reports.specs.Shadows as spec;
 ghost use Rattle.clause_equations.specs.shadow_vectors.CodeVectors.{onto};
@@ -16,8 +16,8 @@ ghost use Rattle.clause_equations.specs.shadow_vectors.CodeVectors.{onto};
 use core_sig::Signature;
 use core_terms::{Items, Pat, Stop, Tele, Term, applied, checked, copy_whole};
 use kernel_check::Kernel;
+use problems::{Built, built_of, split_spine};
 use std::alloc::Global;
-use unifier::{Built, built_of, split_spine};
 
 /// Whether it is constructor `number` of family n.
 fn is_own(b: Built, n: u32, number: u32) -> bool

@@ -18,7 +18,7 @@ use Rattle.clause_reports.specs.Stops.{ReportStop}
 use Rattle.clause_reports.proofs.Keeping.{Grows, GrowsTo, grows_same, grows_on, weaker, Any, any, entering-grows, enter_mention-grows, enter_needed-grows}
 use Rattle.clause_reports.proofs.ReportKeeping.{GrowsBy, report-grows}
 use Rattle.clause_reports.specs.elaboration.Refusals.{Owner, OfType, or_halts, granted, owner_of, or_no_report, reporting}
-use Rattle.clause_reports.specs.Equations.{part_named}
+use Rattle.tree_translation.specs.Naming.{part_named}
 use Rattle.clause_reports.specs.elaboration.Functions.{Following, Lines, plan_of, enter_drafts, enter_values, enter_plan, recursion_in, first_domains, function_level, report_walks, report_parts, function_of}
 use Rattle.clause_reports.specs.elaboration.Laws.{FunctionKeepsWellFormed}
 

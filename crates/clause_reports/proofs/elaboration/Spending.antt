@@ -21,7 +21,7 @@ use Rattle.clause_reports.specs.Reports.{Reference, report_of}
 use Rattle.clause_reports.proofs.Spending.{entering-spends, enter_mention-spends, enter_needed-spends}
 use Rattle.clause_reports.proofs.ReportSpending.{report-spends}
 use Rattle.clause_reports.specs.elaboration.Refusals.{OfType, or_halts, granted, owner_of, reporting, walking}
-use Rattle.clause_reports.specs.Equations.{part_named}
+use Rattle.tree_translation.specs.Naming.{part_named}
 use Rattle.clause_reports.specs.elaboration.Walking.{Session, Walked, walk_clauses}
 use Rattle.clause_reports.specs.elaboration.Functions.{Following, own_part, position_chosen, own_finished, helpers_finished, recursion_in, plan_of, enter_drafts, enter_values, enter_plan, first_domains, function_level, report_walks, report_parts}
 use Rattle.clause_reports.specs.elaboration.Laws.{FunctionSpends}

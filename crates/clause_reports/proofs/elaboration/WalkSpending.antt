@@ -19,7 +19,7 @@ use Rattle.case_trees.proofs.SpentUnits.{walk_spends}
 use Rattle.with_abstraction.specs.Abstractions.{abstract_over_of}
 use Rattle.with_abstraction.proofs.ScopedAbstractions.{abstraction-spends}
 use Rattle.clause_reports.specs.elaboration.Refusals.{Owner, owner_of, OfDot, OfSide, OfWith, OfGoal, Elaborating, or_halts, halting, granted, walking}
-use Rattle.clause_reports.specs.Equations.{part_named}
+use Rattle.tree_translation.specs.Naming.{part_named}
 use Rattle.clause_reports.specs.elaboration.Walking.{Session, Opened, check_dot, after_dots, without_self, open_over, opened, walk_clause, walk_right, walk_clauses}
 
 check_dot-spends : (S : Signature) (owner : Owner) (context : Telescope) (d : Term × Term) (left : ℕ) → (check_dot S owner context d left).1 ≤ left

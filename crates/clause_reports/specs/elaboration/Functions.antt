@@ -21,7 +21,7 @@ use Rattle.tree_translation.specs.Plans.{Plan, Part}
 use Rattle.tree_translation.specs.Recursion.{Recursion, recursion_at, order_of, ordered_telescope, ordered_term}
 use Rattle.core_sig.specs.Drafts.{Draft}
 use Rattle.clause_reports.specs.DraftEntering.{enter_draft_of, enter_needed, enter_mention, Names}
-use Rattle.clause_reports.specs.Equations.{part_named}
+use Rattle.tree_translation.specs.Naming.{part_named}
 use Rattle.clause_reports.specs.Generated.{all_name}
 use Rattle.clause_reports.specs.Reports.{Line, report_of}
 use Rattle.clause_reports.specs.elaboration.Refusals as refusal

@@ -18,7 +18,7 @@ use Rattle.case_trees.specs.Points.{under_solution}
 use Rattle.case_trees.specs.OwnWalks.{own_walk_of}
 use Rattle.tele_eq.specs.Levels.{place_in}
 use Rattle.with_abstraction.specs.Abstractions.{Abstracted, abstract_over_of}
-use Rattle.clause_reports.specs.Equations.{part_named}
+use Rattle.tree_translation.specs.Naming.{part_named}
 use Rattle.core_text.specs.ContextText.{context_text}
 use Rattle.core_text.specs.TermText.{term_text}
 use Rattle.clause_reports.specs.elaboration.Refusals.{Owner, owner_of, OfDot, OfSide, OfWith, OfGoal, Refusal, DotMismatch, SelfInType, Elaborating, answers, or_halts, halting, granted, level_too_high, walking}

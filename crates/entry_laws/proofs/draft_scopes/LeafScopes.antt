@@ -17,7 +17,7 @@ use Rattle.core_terms.specs.Patterns as pattern
 use Rattle.core_terms.specs.Clauses.{Clause, Is}
 use Rattle.core_sig.specs.DraftScopes.{IsDraftNumber, IsDraftTerm}
 use Rattle.core_sig.proofs.PlacedDrafts.{draft-pi, draft-lam, draft-app, draft-let}
-use Rattle.unifier.specs.Conditions.{AreBelow}
+use Rattle.problems.specs.Conditions.{AreBelow}
 use Rattle.case_trees.specs.Scoped.{IsScopedLeaf}
 use Rattle.tree_translation.specs.Conditions.{with_function, IsSide}
 use Rattle.tree_translation.specs.Hidden.{visible}

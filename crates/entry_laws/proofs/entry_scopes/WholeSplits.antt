@@ -31,7 +31,7 @@ use Rattle.unification.specs.States.{State}
 use Rattle.unification.proofs.OutcomeScopes.{outcome-scoped}
 use Rattle.unification.proofs.ScopedEquations.{telescope-equations}
 use Rattle.unification.proofs.ScopedRecords.{variables-scoped, lifted-scoped, length-argument_items, length-family_items, argument_items-scoped, family_items-scoped}
-use Rattle.unifier.specs.Conditions.{AreBelow}
+use Rattle.problems.specs.Conditions.{AreBelow}
 use Rattle.case_trees.specs.Problems.{Member, member_of, problem_of}
 use Rattle.case_trees.specs.Standing.{Runs}
 use Rattle.case_trees.proofs.ScopedProblems.{IsMemberIn, member-in, problem-scoped}

@@ -13,7 +13,7 @@ use Rattle.kernel_reduce.proofs.LookUps.{family-found}
 use Rattle.unification.specs.Outcomes.{Outcome, Solved, Absurd}
 use Rattle.unification.specs.ScopedStates.{IsReady, AreScopedSteps, IsScopedOutcome, IsScopedProblem}
 use Rattle.unification.proofs.OutcomeScopes.{outcome-scoped}
-use Rattle.unifier.specs.Conditions.{AreBelow}
+use Rattle.problems.specs.Conditions.{AreBelow}
 use Rattle.case_trees.specs.Problems.{Member, member_of, problem_of}
 use Rattle.case_trees.specs.Standing.{Runs}
 use Rattle.case_trees.proofs.ScopedProblems.{member-in, problem-scoped}

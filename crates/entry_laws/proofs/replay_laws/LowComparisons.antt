@@ -21,9 +21,9 @@ use Rattle.unification.specs.Records.{argument_items, constructor_terms, family_
 use Rattle.unification.specs.States.{Equation}
 use Rattle.unification.proofs.Constructors.{instance_of}
 use Rattle.unification.proofs.ScopedRecords.{length-argument_items, length-family_items}
-use Rattle.unifier.specs.CodeInjections.{equations_joined}
-use Rattle.unifier.specs.Conditions.{AreLow}
-use Rattle.unifier.proofs.LowTerms.{terms-low}
+use Rattle.problems.specs.CodeInjections.{equations_joined}
+use Rattle.problems.specs.Conditions.{AreLow}
+use Rattle.problems.proofs.LowTerms.{terms-low}
 use Rattle.tree_translation.specs.Comparisons.{Comparison}
 use Rattle.tree_translation.specs.Replays.{injected_standing, with_state}
 use Rattle.tree_translation.specs.Standings.{Standing}

@@ -13,8 +13,8 @@ use Rattle.tele_eq.proofs.Positions.{length-each_position}
 use Rattle.unification.specs.Heights.{are_low_items}
 use Rattle.unification.specs.Records.{family_items}
 use Rattle.unification.proofs.ScopedRecords.{length-family_items}
-use Rattle.unifier.specs.Conditions.{AreLow}
-use Rattle.unifier.proofs.LowTerms.{terms-low}
+use Rattle.problems.specs.Conditions.{AreLow}
+use Rattle.problems.proofs.LowTerms.{terms-low}
 use Rattle.tree_translation.specs.Comparisons.{Comparison, group_equations, left_member, member, right_member, targets}
 use Rattle.tree_translation.specs.ConfusionTerms.{compared_equations, conflict_term, confused, inject_term}
 use Rattle.tree_translation.specs.Naming.{Naming, noconf_name}

@@ -39,7 +39,7 @@ use Rattle.unification.proofs.Constructors.{built-is}
 use Rattle.unification.proofs.Memberships.{IsMembership, membership-is}
 use Rattle.unification.proofs.ScopedRecords.{length-family_items}
 use Rattle.unification.proofs.SpentUnits.{any-answer}
-use Rattle.unifier.proofs.LowTerms.{low-height}
+use Rattle.problems.proofs.LowTerms.{low-height}
 use Rattle.tree_translation.specs.Comparisons.{compared, compared_alone, compared_by, compared_in}
 use Rattle.tree_translation.proofs.Comparing.{compared-group}
 use Rattle.entry_laws.proofs.replay_laws.LowComparisons.{IsLowComparison, comparison_of}

@@ -13,8 +13,8 @@ use Rattle.tele_eq.specs.Items.{Item, type_at}
 use Rattle.tele_eq.proofs.Carrying.{ups_by}
 use Rattle.unification.specs.Heights.{are_low_items}
 use Rattle.unification.specs.Injecting.{lifted}
-use Rattle.unifier.specs.Conditions.{AreLow}
-use Rattle.unifier.proofs.LowTerms.{and-parts, low-height}
+use Rattle.problems.specs.Conditions.{AreLow}
+use Rattle.problems.proofs.LowTerms.{and-parts, low-height}
 use Rattle.tree_translation.specs.Hidden.{visible}
 use Rattle.tree_translation.proofs.SeenTerms.{widening}
 use Rattle.tree_translation.proofs.TelescopeInstances.{IsInstance}

@@ -8,8 +8,8 @@ use Rattle.tele_eq.specs.Environments.{Environment, outside, put_under, put_vari
 use Rattle.tele_eq.specs.Items.{Item, each_position, term_at, type_at}
 use Rattle.tele_eq.specs.TelescopicEquality.{equation_behind, equations, reflexive, reflexivities}
 use Rattle.unification.specs.Heights.{are_low_items}
-use Rattle.unifier.specs.Conditions.{AreLow}
-use Rattle.unifier.proofs.LowTerms.{low-sides as low-both}
+use Rattle.problems.specs.Conditions.{AreLow}
+use Rattle.problems.proofs.LowTerms.{low-sides as low-both}
 use Rattle.tree_translation.specs.Standings.{all_placed, at_levels, placed_telescope}
 use Rattle.entry_laws.proofs.replay_laws.LowInstances.{height-low}
 

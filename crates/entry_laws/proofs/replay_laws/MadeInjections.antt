@@ -24,8 +24,8 @@ use Rattle.unification.specs.Records.{argument_items, constructor_terms, family_
 use Rattle.unification.specs.States.{Equation, State}
 use Rattle.unification.proofs.Constructors.{found}
 use Rattle.unification.proofs.ScopedRecords.{length-argument_items}
-use Rattle.unifier.specs.Conditions.{AreLow}
-use Rattle.unifier.proofs.LowTerms.{low-drop, low-terms}
+use Rattle.problems.specs.Conditions.{AreLow}
+use Rattle.problems.proofs.LowTerms.{low-drop, low-terms}
 use Rattle.run_terms.proofs.MadeTerms.{if-both}
 use Rattle.entry_laws.proofs.replay_laws.LowComparisons.{IsLowComparison, comparison_of}
 use Rattle.entry_laws.proofs.replay_laws.LowInstances.{low-spine}

@@ -18,8 +18,8 @@ use Rattle.unification.specs.Records.{argument_items, family_items}
 use Rattle.unification.specs.States.{Equation, State}
 use Rattle.unification.proofs.Counts.{length-equations}
 use Rattle.unification.proofs.ScopedRecords.{length-argument_items}
-use Rattle.unifier.specs.CodeInjections.{equations_joined}
-use Rattle.unifier.proofs.InjectionRooms.{joined-same}
+use Rattle.problems.specs.CodeInjections.{equations_joined}
+use Rattle.problems.proofs.InjectionRooms.{joined-same}
 use Rattle.tree_translation.specs.Comparisons.{Comparison, compared}
 use Rattle.tree_translation.specs.Replays.{behind_rule, behind_run, injected_standing, step_in, unless_compared, with_state}
 use Rattle.tree_translation.specs.Standings.{Standing}

@@ -18,7 +18,7 @@ use Rattle.unification.specs.Records.{argument_items, constructor_terms, family_
 use Rattle.unification.specs.States.{Equation, equations_at}
 use Rattle.unification.proofs.Cases.{below-or_from, second-of_two}
 use Rattle.unification.proofs.ScopedRecords.{length-argument_items}
-use Rattle.unifier.specs.Conditions.{AreBelow}
+use Rattle.problems.specs.Conditions.{AreBelow}
 use Rattle.case_trees.specs.Problems.{Member, member_of, problem_of}
 use Rattle.tree_translation.specs.Conditions.{IsSeen}
 use Rattle.tree_translation.specs.Hidden.{visible, widened_number}

@@ -28,7 +28,7 @@ use Rattle.unification.proofs.FollowingRuns.{run-follows}
 use Rattle.unification.proofs.Levels.{place-there}
 use Rattle.unification.proofs.ScopedEquations.{start-is}
 use Rattle.unification.proofs.SolvedContexts.{length-new_context, other-among}
-use Rattle.unifier.specs.Conditions.{AreBelow}
+use Rattle.problems.specs.Conditions.{AreBelow}
 use Rattle.case_trees.specs.Points.{Point}
 use Rattle.case_trees.specs.Problems.{Member}
 use Rattle.case_trees.specs.Standing.{BranchesAt, Runs}

@@ -11,7 +11,7 @@ use Rattle.unification.specs.ScopedStates.{IsReady}
 use Rattle.case_trees.specs.Points.{Point}
 use Rattle.case_trees.specs.Scoped.{IsScopedLeaf, IsScopedTree}
 use Rattle.case_trees.specs.Standing.{StandsAt}
-use Rattle.unifier.specs.Conditions.{AreBelow}
+use Rattle.problems.specs.Conditions.{AreBelow}
 use Rattle.tree_translation.specs.Conditions.{IsSeen, IsSplitGiven}
 use Rattle.tree_translation.specs.Naming.{number_in, is_named}
 use Rattle.tree_translation.specs.RightSides.{leaf_term}

@@ -3,7 +3,7 @@ use Rattle.std.specs.Prelude.{◌≡◌, ℕ, ◌-◌, List, length, IfOk}
 use Rattle.theory.specs.Terms.{Term}
 use Rattle.theory.specs.Signatures.{Signature}
 use Rattle.core_terms.specs.CaseTrees.{Step}
-use Rattle.unifier.specs.Conditions.{AreBelow}
+use Rattle.problems.specs.Conditions.{AreBelow}
 use Rattle.tree_translation.specs.Conditions.{IsSplitGiven}
 use Rattle.tree_translation.specs.Naming.{mentions, once}
 use Rattle.tree_translation.specs.Splits.{Node, split_term}

@@ -1,7 +1,7 @@
 -- The nodes at which the trees of a function begin: the below value is hidden, and nothing else.
 use Rattle.std.specs.Prelude.{Option, Some, length}
 use Rattle.theory.specs.Telescopes.{Telescope}
-use Rattle.unifier.specs.Conditions.{AreBelow}
+use Rattle.problems.specs.Conditions.{AreBelow}
 use Rattle.tree_translation.specs.Conditions.{IsSeen}
 use Rattle.tree_translation.specs.Entries.{helper_node, step_node}
 use Rattle.tree_translation.specs.Naming.{Naming}

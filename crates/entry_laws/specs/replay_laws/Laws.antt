@@ -10,7 +10,7 @@ use Rattle.core_terms.specs.declared.stop.Stop.TheVariants.{Deep}
 use Rattle.unification.specs.Outcomes.{Outcome, steps_in}
 use Rattle.unification.specs.ScopedStates.{IsReady, IsScopedProblem}
 use Rattle.unification.specs.States.{Problem}
-use Rattle.unifier.specs.Conditions.{AreBelow}
+use Rattle.problems.specs.Conditions.{AreBelow}
 use Rattle.case_trees.specs.Problems.{Member, member_of, problem_of}
 use Rattle.case_trees.specs.Standing.{Runs}
 use Rattle.tree_translation.specs.Conditions.{IsSeen}

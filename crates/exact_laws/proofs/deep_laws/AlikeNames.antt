@@ -16,7 +16,7 @@ use Rattle.unification.specs.Outcomes.{Outcome, Solved}
 use Rattle.unification.specs.Records.{constructor_terms, family_items}
 use Rattle.unification.specs.ScopedStates.{IsReady}
 use Rattle.unification.specs.States.{starting}
-use Rattle.unifier.specs.Conditions.{AreLow}
+use Rattle.problems.specs.Conditions.{AreLow}
 use Rattle.case_trees.specs.Points.{Point}
 use Rattle.case_trees.specs.Problems.{Member, problem_of}
 use Rattle.case_trees.specs.Scoped.{AreScopedBranches, IsScopedTree}

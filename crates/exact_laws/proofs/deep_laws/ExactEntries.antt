@@ -12,7 +12,7 @@ use Rattle.core_terms.specs.declared.stop.Stop.TheVariants.{Deep}
 use Rattle.theory.proofs.Lists.{some_is}
 use Rattle.core_sig.specs.Drafts.{Draft}
 use Rattle.kernel_reduce.specs.Entries.{family_at}
-use Rattle.unifier.proofs.LowTerms.{terms-low}
+use Rattle.problems.proofs.LowTerms.{terms-low}
 use Rattle.tree_translation.specs.structural_rec.Positions.{Admission, admission}
 use Rattle.tree_translation.specs.structural_rec.Uses.{Use}
 use Rattle.tree_translation.specs.Conditions.{IsOwnPart, IsPartOf}

@@ -30,7 +30,7 @@ use Rattle.entry_laws.proofs.replay_laws.LowParts.{low-functions}
 use Rattle.entry_laws.proofs.replay_laws.TreeNodes.{IsNodeOver}
 use Rattle.leaf_terms.specs.CallsApart.{CallsStandApart}
 use Rattle.function_entries.specs.CodeEntries.{table_made, translation_with, tree_entry_made}
-use Rattle.function_entries.specs.CodeNumbering.{names_at, numbered, places_of}
+use Rattle.leaf_terms.specs.CodeNumbering.{names_at, numbered, places_of}
 use Rattle.function_entries.specs.CodeTrees.{tree_names_made}
 use Rattle.entry_laws.specs.node_roots.Laws.{IsRoot}
 use Rattle.entry_laws.proofs.SameNames.{IsLikeNode, tree-names}

@@ -24,7 +24,7 @@ use Rattle.unification.specs.ScopedStates.{IsReady}
 use Rattle.unification.specs.States.{Problem, equations_at, starting, types_as_they_stand}
 use Rattle.unification.proofs.ScopedRecords.{length-family_items}
 use Rattle.unification.proofs.Counts.{length-equations}
-use Rattle.unifier.specs.Conditions.{AreBelow, AreLow}
+use Rattle.problems.specs.Conditions.{AreBelow, AreLow}
 use Rattle.case_trees.specs.Problems.{Member, member_of, problem_of}
 use Rattle.case_trees.specs.Standing.{Runs}
 use Rattle.case_trees.proofs.ScopedProblems.{member-in, problem-scoped}

@@ -8,7 +8,7 @@ use Rattle.core_terms.specs.CaseTrees.{Branches, Tree}
 use Rattle.core_terms.specs.declared.stop.Stop.{Stop}
 use Rattle.tele_eq.proofs.Growing.{append-none}
 use Rattle.unification.specs.ScopedStates.{IsReady}
-use Rattle.unifier.specs.Conditions.{AreLow}
+use Rattle.problems.specs.Conditions.{AreLow}
 use Rattle.case_trees.specs.Points.{Point}
 use Rattle.case_trees.specs.Problems.{Member}
 use Rattle.case_trees.specs.Scoped.{AreScopedBranches, IsScopedTree}

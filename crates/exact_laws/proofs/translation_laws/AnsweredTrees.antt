@@ -10,7 +10,7 @@ use Rattle.core_terms.specs.declared.stop.Stop.{Stop}
 use Rattle.tele_eq.proofs.Growing.{append-none}
 use Rattle.unification.specs.Outcomes.{Absurd, Solved}
 use Rattle.unification.specs.ScopedStates.{IsReady}
-use Rattle.unifier.specs.Conditions.{AreLow}
+use Rattle.problems.specs.Conditions.{AreLow}
 use Rattle.case_trees.specs.Points.{Point}
 use Rattle.case_trees.specs.Problems.{Member, problem_of}
 use Rattle.case_trees.specs.Scoped.{AreScopedBranches, IsScopedTree}

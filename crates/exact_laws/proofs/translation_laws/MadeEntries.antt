@@ -21,7 +21,7 @@ use Rattle.split_terms.specs.CodeSplits.{member_made, standing_made}
 use Rattle.leaf_terms.specs.RecursionMade.{made_at, recursion_made}
 use Rattle.leaf_terms.proofs.LeafTerms.{leaf-is-deep}
 use Rattle.function_entries.specs.CodeEntries.{body_made, entries_made, first_count, first_entries, function_by_recursion, helper_made, helpers_made, motive_body, motive_made, motive_type, node_type, old_order, own_goal, own_order, own_telescope, plain_made, recursive_made, recursive_names, step_made, step_node, table_made, translation_with, tree_entry_made, with_draft}
-use Rattle.function_entries.specs.CodeNumbering.{names_at, numbered, places_of}
+use Rattle.leaf_terms.specs.CodeNumbering.{names_at, numbered, places_of}
 use Rattle.function_entries.specs.CodeTrees.{branch_names_made, branches_names_made, end_made, ends_made, names_at_split, next_made, node_after, tree_made, tree_names_made}
 use Rattle.function_entries.proofs.EntriesMade.{translate-is}
 use Rattle.entry_laws.proofs.replay_laws.ReplayedSteps.{OnlyDeep, after_run-only_deep, after_step-is_step, if-deep, never, then-deep}

@@ -7,7 +7,7 @@ use Rattle.core_terms.specs.CaseTrees.{Step}
 use Rattle.core_terms.specs.declared.stop.Stop.{Stop}
 use Rattle.core_terms.specs.declared.stop.Stop.TheVariants.{Deep}
 use Rattle.unification.specs.ScopedStates.{IsReady}
-use Rattle.unifier.specs.Conditions.{AreBelow}
+use Rattle.problems.specs.Conditions.{AreBelow}
 use Rattle.tree_translation.specs.Conditions.{IsSplit}
 use Rattle.tree_translation.specs.Naming.{Naming}
 use Rattle.tree_translation.specs.Splits.{Node, split_names, split_node, split_term}

@@ -3,7 +3,7 @@ use Rattle.std.specs.Prelude.{◌≡◌, ◌≤◌, ℕ, List, ◌++◌, length,
 use Rattle.theory.specs.Terms.{height}
 use Rattle.core_terms.specs.CaseTrees.{Tree}
 use Rattle.unification.specs.ScopedStates.{IsReady}
-use Rattle.unifier.specs.Conditions.{AreBelow}
+use Rattle.problems.specs.Conditions.{AreBelow}
 use Rattle.case_trees.specs.Points.{Point}
 use Rattle.case_trees.specs.Scoped.{IsScopedTree}
 use Rattle.case_trees.specs.Standing.{EachLeaf, LeafProperty, StandsAt}

@@ -13,7 +13,7 @@ use Rattle.core_terms.specs.declared.pattern.Clause as code
 use Rattle.core_terms.specs.declared.pattern.Right.TheFolds.{the_lemmas}
 use Rattle.case_trees.specs.OwnWalks.{own_walk_of}
 use Rattle.case_trees.specs.Points.{under_solution}
-use Rattle.clause_reports.specs.Equations.{part_named}
+use Rattle.tree_translation.specs.Naming.{part_named}
 use Rattle.clause_reports.specs.elaboration.Refusals as pure
 use Rattle.clause_reports.specs.elaboration.Refusals.{Elaborating, Owner, answers, or_halts, owner_of, walking}
 use Rattle.clause_reports.specs.elaboration.Walking.{Session, Opened, Given, after_dots, check_dot, open_over, walk_clause, walk_right}

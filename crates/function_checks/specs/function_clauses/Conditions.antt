@@ -8,7 +8,7 @@ use Rattle.core_terms.specs.Clauses.{Right}
 use Rattle.case_trees.specs.Scoped.{IsScopedWalk}
 use Rattle.resolve.specs.Scoping.{AreClauses}
 use Rattle.unification.specs.ScopedStates.{IsReady}
-use Rattle.unifier.specs.Conditions.{most_levels}
+use Rattle.problems.specs.Conditions.{most_levels}
 
 -- a walk over a signature, with room for one variable more
 pub record IsWalkOver (S : Signature) (w : Walk) : Type 0 where

@@ -6,7 +6,7 @@ use Rattle.case_trees.specs.Laws.{IsGiven}
 use Rattle.case_trees.specs.Scoped.{AreClausesFor}
 use Rattle.clause_reports.specs.elaboration.Walking.{Opened, Walked}
 use Rattle.resolve.specs.Scoping.{AreClauses}
-use Rattle.unifier.specs.Conditions.{most_levels}
+use Rattle.problems.specs.Conditions.{most_levels}
 
 -- A part that clauses can be walked from: it is scoped, and its telescope is not too long.
 pub record IsPart (S : Signature) (part : Opened) : Type 0 where

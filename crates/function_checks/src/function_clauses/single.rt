@@ -11,7 +11,7 @@ ghost use Rattle.function_checks.specs.function_refusals.RefusalMeanings.{Elabor
 ghost use Rattle.function_checks.specs.function_walks.Conditions.{IsPart};
 ghost use Rattle.function_checks.specs.function_walks.WalkingMeanings.{opened_of};
 ghost use Rattle.resolve.specs.Scoping.{IsClause};
-ghost use Rattle.unifier.specs.Conditions.{most_levels};
+ghost use Rattle.problems.specs.Conditions.{most_levels};
 ghost use Rattle.function_checks.specs.walk_checks.CheckMeanings.{site_of};
 
 use crate::function_refusals::{FunctionRefusal, ended};

@@ -23,9 +23,9 @@ use crate::function_clauses::single::clause_walked;
 use crate::function_refusals::FunctionRefusal;
 use crate::function_walks::{Given, Opened, Session};
 use crate::walk_checks::Site;
-use clause_equations::part_name;
 use core_terms::{Clause, Items, Right, Stop, Term, Walk, next as next_number, number_of, sum};
 use kernel_check::Kernel;
+use leaf_terms::part_name;
 use std::alloc::Global;
 
 /// The number of the next helper after the results of a clause.

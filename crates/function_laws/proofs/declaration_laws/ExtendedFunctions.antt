@@ -20,7 +20,7 @@ use Rattle.drafts.proofs.draft_entering.Entered.{ExtendsTo}
 use Rattle.drafts.proofs.entering_laws.EnteredOpen.{entering-extends, enter_mention-extends, enter_needed-extends}
 use Rattle.function_laws.proofs.declaration_laws.ExtendedReports.{ExtendsBy, report-extends}
 use Rattle.clause_reports.specs.elaboration.Refusals.{OfType, or_halts, granted, owner_of, reporting}
-use Rattle.clause_reports.specs.Equations.{part_named}
+use Rattle.tree_translation.specs.Naming.{part_named}
 use Rattle.clause_reports.specs.elaboration.Functions.{Following, Lines, plan_of, enter_drafts, enter_values, enter_plan, recursion_in, first_domains, function_level, report_walks, report_parts, function_of}
 use Rattle.clause_reports.proofs.elaboration.Keeping.{no_report-has}
 

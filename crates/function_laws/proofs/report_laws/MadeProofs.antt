@@ -15,7 +15,7 @@ use Rattle.core_sig.proofs.DraftTerms.{height-renumbered}
 use Rattle.tele_eq.proofs.Growing.{append-none}
 use Rattle.unification.specs.Outcomes as outcome
 use Rattle.unification.specs.ScopedStates.{IsReady}
-use Rattle.unifier.specs.Conditions.{AreLow}
+use Rattle.problems.specs.Conditions.{AreLow}
 use Rattle.case_trees.specs.Problems.{Member, member_of, problem_of}
 use Rattle.case_trees.specs.Standing.{Runs}
 use Rattle.tree_translation.specs.Conditions.{AreRuns, IsEnd, IsSplit}
@@ -35,7 +35,7 @@ use Rattle.exact_laws.specs.run_laws.SplitLaws.{IsRunSplit}
 use Rattle.exact_laws.proofs.run_laws.AnsweredSplits.{IsSplitOver, branch-run, branch-there, method-low, split-answers, split-low, split_names-answer, whole-member, whole_of}
 use Rattle.exact_laws.proofs.run_laws.MadeSplits.{split-only_deep, split_names-only_deep}
 use Rattle.exact_laws.proofs.run_laws.RunEnds.{end-low}
-use Rattle.function_entries.specs.CodeNumbering.{names_at, numbered, places_of}
+use Rattle.leaf_terms.specs.CodeNumbering.{names_at, numbered, places_of}
 use Rattle.exact_laws.proofs.deep_laws.MadeParts.{bounded-low}
 use Rattle.clause_reports.specs.Equations.{Equation, part_at, part_name, closed_type}
 use Rattle.clause_reports.specs.ProofTerms.{all_proof_names, candidate, goal_node, proof_names, proof_term, proof_terms}

@@ -5,7 +5,7 @@ use Rattle.core_terms.specs.Answers.{and_next, on_answer}
 use Rattle.core_terms.specs.CaseTrees.{Walk}
 use Rattle.clause_lines.specs.CodeReports.{report_made}
 use Rattle.clause_lines.specs.Laws.{ReportAnswers}
-use Rattle.clause_reports.specs.Equations.{part_named}
+use Rattle.tree_translation.specs.Naming.{part_named}
 use Rattle.clause_reports.specs.Reports.{report_of}
 use Rattle.clause_reports.specs.elaboration.Functions.{ClauseLine, Following, Lines, report_parts, report_walks, with_line}
 use Rattle.clause_reports.specs.elaboration.Refusals.{Elaborating, Refusal, owner_of, reporting}

@@ -17,7 +17,7 @@ use Rattle.tree_translation.specs.Recursion.{Recursion}
 use Rattle.leaf_terms.specs.RecursionMade.{made_at}
 use Rattle.function_entries.specs.CodeEntries.{translate_made}
 use Rattle.clause_reports.specs.DraftEntering.{Names, enter_draft_of, enter_mention, enter_needed}
-use Rattle.clause_reports.specs.Equations.{part_named}
+use Rattle.tree_translation.specs.Naming.{part_named}
 use Rattle.clause_reports.specs.Generated.{all_name}
 use Rattle.clause_reports.specs.Reports.{Line, Reference, Reported}
 use Rattle.clause_lines.specs.CodeReports.{report_made}

@@ -6,7 +6,7 @@ ghost use Rattle.core_terms.specs.TreeMeanings.{walk_of};
 ghost use Rattle.drafts.specs.draft_entering.Conditions.{Extends, IsOpen};
 ghost use Rattle.drafts.specs.draft_entering.Stops as stops;
 ghost use Rattle.clause_reports.specs.elaboration.Refusals as refusals;
-ghost use Rattle.clause_reports.specs.Equations.{part_named};
+ghost use Rattle.tree_translation.specs.Naming.{part_named};
 ghost use Rattle.function_session.specs.function_lines.FunctionMade as spec;
 ghost use Rattle.function_session.specs.function_lines.LineMeanings.{clause_line_of, lines_of};
 ghost use Rattle.function_checks.specs.function_refusals.RefusalMeanings.{Elaborates, IsUnforeseen, refusal_of};
@@ -14,13 +14,12 @@ ghost use Rattle.leaf_terms.specs.PlanMeanings.{parts_of, plan_of};
 
 use crate::function_lines::ClauseLine;
 use crate::function_lines::refusing::refused;
-use clause_equations::part_name;
 use clause_lines::{Line, report};
 use core_sig::Signature;
 use core_terms::{Items, Stop, Units, Walk, number_of};
 use drafts::draft_entering::ReportStop;
 use function_checks::function_refusals::{FunctionRefusal, owner_of};
-use leaf_terms::{Part, Plan};
+use leaf_terms::{Part, Plan, part_name};
 use std::alloc::Global;
 
 /// The line of clause `number` of part `k`.

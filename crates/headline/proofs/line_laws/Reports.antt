@@ -16,7 +16,8 @@ use Rattle.elab_session.proofs.WrittenDefinitions.{definition-of}
 use Rattle.clause_reports.proofs.Keeping.{Grows, grows_on, grows_same}
 use Rattle.clause_reports.proofs.Lines as found
 use Rattle.clause_reports.proofs.ReportKeeping.{GrowsBy, report-grows}
-use Rattle.clause_reports.specs.Equations.{part_at, part_named, pats_of}
+use Rattle.clause_reports.specs.Equations.{part_at, pats_of}
+use Rattle.tree_translation.specs.Naming.{part_named}
 use Rattle.clause_reports.specs.Reports.{Absurd, Line, Reference, Reported, report_of, reported, some_absurd}
 use Rattle.clause_reports.specs.Stops.{ReportStop}
 use Rattle.clause_reports.proofs.LineLaws.{absurd-line}

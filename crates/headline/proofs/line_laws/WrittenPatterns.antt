@@ -12,7 +12,7 @@ use Rattle.tree_translation.specs.Entries.{ordered_variables}
 use Rattle.tree_translation.specs.Plans.{Part, Plan, no_part}
 use Rattle.tree_translation.specs.Recursion.{Recursion, order_of, ordered_telescope, ordered_term}
 use Rattle.clause_reports.proofs.Keeping.{Any, any, weaker}
-use Rattle.clause_reports.specs.Equations.{part_named}
+use Rattle.tree_translation.specs.Naming.{part_named}
 use Rattle.clause_reports.specs.elaboration.Functions.{helpers_finished, own_finished, own_part, patterns_in, plan_of, position_chosen, recursion_in}
 use Rattle.clause_reports.specs.elaboration.Refusals.{walking}
 use Rattle.clause_reports.specs.elaboration.Walking.{Session, Walked, walk_clauses}

@@ -9,10 +9,10 @@ use Rattle.elab_session.specs.declared.refusal.Refusal.{Refusal}
 use Rattle.function_session.specs.Elaborating.{Elaborated}
 use Rattle.elim_program.specs.DefinedOutputs as defined
 use Rattle.elim_program.specs.DefinedOutputs.{IsOutput}
-use Rattle.elim_program.specs.Lines.{text_of}
+use Rattle.program_texts.specs.Lines.{text_of}
 use Rattle.elim_program.specs.Outputs.{Block, Output, accepted_lines, after, block, compiled, declared_block, declared_name, followed, head_lines}
-use Rattle.elim_program.specs.Refusals.{refused_lines}
-use Rattle.elim_program.specs.declared.status.Status.TheVariants as statuses
+use Rattle.program_texts.specs.Refusals.{refused_lines}
+use Rattle.program_texts.specs.declared.status.Status.TheVariants as statuses
 use Rattle.elim_program.proofs.OneOutput.{one_output}
 use Rattle.headline.specs.meaning_laws.Complete.{AreAccepted, EachIsAnswered, IsMeantOutput, RunsAgree, WholeIsMeant, end, lines_before, next}
 use Rattle.headline.specs.meaning_laws.Complete as meant

@@ -10,7 +10,7 @@ use Rattle.function_laws.specs.declaration_laws.Laws.{AreMeant, TextIsMeant}
 use Rattle.elim_program.specs.DefinedOutputs.{compiles, works}
 use Rattle.elim_program.specs.Outputs.{Output, after, compiled, declarations, declared_block, followed, text_block}
 use Rattle.elim_program.specs.Runs.{Follows, nothing, output}
-use Rattle.elim_program.specs.Texts.{Answer, Gives}
+use Rattle.program_texts.specs.Texts.{Answer, Gives}
 use Rattle.elim_program.specs.WorkTexts.{work_text}
 use Rattle.elim_program.specs.Works.{none_counted, on_worked, with_accepted, work_output, worked, worked_block}
 use Rattle.elim_program.proofs.OneOutput.{one_output}

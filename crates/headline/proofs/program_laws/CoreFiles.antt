@@ -30,7 +30,7 @@ use Rattle.core_text.specs.ReadBack.{EntryReadsBack, EntriesAreReadBack}
 use Rattle.core_text.specs.WrittenEntries.{MayFollow, EntriesThatFollow}
 use Rattle.elab_session.specs.Adding.{Adds, family, eliminator, axiom_k, definition}
 use Rattle.elim_program.specs.Headline.{is_core, core_lines, Shows, none, more}
-use Rattle.elim_program.specs.Lines.{text_of}
+use Rattle.program_texts.specs.Lines.{text_of}
 use Rattle.elim_program.specs.Outputs.{line_of, entry_lines, head_lines}
 use Rattle.elim_program.specs.Verifies.{read_name}
 use Rattle.elim_program.specs.VerifyHeadline.{Holds, head, entry}

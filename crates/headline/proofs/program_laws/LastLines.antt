@@ -13,13 +13,14 @@ use Rattle.family_check.specs.Entering.{Entered}
 use Rattle.elab_session.specs.Entering.{enter_of}
 use Rattle.elab_session.specs.declared.refusal.Refusal.{Refusal}
 use Rattle.function_session.specs.Elaborating.{Elaborated, elaborate_of}
-use Rattle.elim_program.specs.declared.status.Status.TheVariants as status
-use Rattle.elim_program.specs.ClauseTexts.{clause_lines}
+use Rattle.program_texts.specs.declared.status.Status.TheVariants as status
+use Rattle.program_texts.specs.ClauseTexts.{clause_lines}
 use Rattle.elim_program.specs.DefinedOutputs.{refused_words, compiles, verifies, works}
 use Rattle.elim_program.specs.Outputs.{Block, block, lines_after, accepted_line, declared_name, declared_block, after, followed, declarations, text_block, head_lines, compiled}
-use Rattle.elim_program.specs.Refusals.{candidate_lines, candidate_of, refusal_line, refusal_text, refused_lines, stop_text}
-use Rattle.elim_program.specs.Texts.{limited}
-use Rattle.elim_program.specs.Verifies.{read_name, verified_line, entry_block, read_block, after_entry, unread, next_block, entries, after_head, file_block}
+use Rattle.program_texts.specs.Refusals.{candidate_lines, candidate_of, refusal_line, refusal_text, refused_lines, stop_text}
+use Rattle.program_texts.specs.Texts.{limited}
+use Rattle.elim_program.specs.Verifies.{read_name, verified_line, entry_block, read_block, after_entry, next_block, entries, after_head, file_block}
+use Rattle.program_texts.specs.Texts.{unread}
 use Rattle.elim_program.specs.WorkTexts.{summary_line}
 use Rattle.elim_program.specs.Works.{none_counted, on_worked, with_accepted, work_block, worked, worked_block}
 use Rattle.headline.specs.program_laws.LastLines.{begins, last_line, status_by}

@@ -7,7 +7,7 @@ use Rattle.theory.specs.Prelude.{prelude}
 use Rattle.theory.specs.Signatures.{Entry, FamilyOf, EliminatorAt, AxiomKAt, Definition, Signature, IsPrefix}
 use Rattle.theory.proofs.Widening.{prefix_keeps}
 use Rattle.core_text.specs.EntryText.{entry_text}
-use Rattle.elim_program.specs.ClauseTexts.{clause_lines}
+use Rattle.program_texts.specs.ClauseTexts.{clause_lines}
 use Rattle.elim_program.specs.Headline.{is_core, core_lines, Shows, none, more, IsShown}
 use Rattle.elim_program.specs.Outputs.{line_of, entry_lines, lines_after, head_lines}
 use Rattle.elim_program.proofs.Accepted.{shows-more}

@@ -10,7 +10,7 @@ use Rattle.core_text.specs.Lines.{AreInLine}
 use Rattle.core_text.specs.ReadBack.{EntriesAreReadBack}
 use Rattle.core_text.specs.WrittenEntries.{EntriesThatFollow}
 use Rattle.elim_program.specs.Headline.{core_lines, Shows, none, more}
-use Rattle.elim_program.specs.Lines.{longer, lines_of, text_of}
+use Rattle.program_texts.specs.Lines.{longer, lines_of, text_of}
 use Rattle.elim_program.specs.Outputs.{head_lines}
 use Rattle.headline.specs.program_laws.CoreFiles.{IsCoreFile, IsWritable}
 use Rattle.headline.specs.program_laws.Laws.{OneSignature}

@@ -6,9 +6,9 @@ use Rattle.surface_syntax.specs.Splitting.{AreTokens, IsBadToken}
 use Rattle.surface_syntax.specs.declared.token.Token.{Token}
 use Rattle.elim_program.specs.DefinedOutputs.{IsOutput, refused_words, compiles, verifies, works}
 use Rattle.elim_program.specs.Outputs.{Output}
-use Rattle.elim_program.specs.Texts.{Answer, Gives, too_long, not_utf8, bad_token, tokens, limit}
+use Rattle.program_texts.specs.Texts.{Answer, Gives, too_long, not_utf8, bad_token, tokens, limit}
 use Rattle.elim_program.specs.WorkTexts.{work_text}
-use Rattle.elim_program.specs.Words.{asked, verify_asked, work_asked}
+use Rattle.program_texts.specs.Words.{asked, verify_asked, work_asked}
 use Rattle.headline.specs.program_laws.Laws.{HasOutput}
 use Rattle.headline.proofs.program_laws.FirstInvalid.{first_invalid}
 use Rattle.headline.proofs.program_laws.Splitting.{tokens_or_bad}

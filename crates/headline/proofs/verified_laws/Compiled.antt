@@ -20,15 +20,15 @@ use Rattle.function_session.specs.Laws.{KeepsReady}
 use Rattle.function_session.proofs.Keeping.{elaborate-ready}
 use Rattle.refusal_laws.specs.accepted_laws.Checked.{Checked, unchanged, one_more}
 use Rattle.elim_program.specs.Acceptance.{Accepts, end, next, own_lines}
-use Rattle.elim_program.specs.ClauseTexts.{clause_lines}
+use Rattle.program_texts.specs.ClauseTexts.{clause_lines}
 use Rattle.elim_program.specs.DefinedOutputs.{IsOutput, compiles, refused_words, verifies, works}
 use Rattle.elim_program.specs.Headline.{Shows, core_lines, more, none}
-use Rattle.elim_program.specs.Lines.{text_of}
+use Rattle.program_texts.specs.Lines.{text_of}
 use Rattle.elim_program.specs.Outputs.{Output, accepted_line, accepted_lines, after, block, compiled, declarations, declared_block, followed, head_lines, lines_after, text_block}
-use Rattle.elim_program.specs.Texts.{Answer, Gives}
+use Rattle.program_texts.specs.Texts.{Answer, Gives}
 use Rattle.elim_program.specs.Verifies.{verified_line}
-use Rattle.elim_program.specs.Words.{asked}
-use Rattle.elim_program.specs.declared.status.Status.TheVariants as status
+use Rattle.program_texts.specs.Words.{asked}
+use Rattle.program_texts.specs.declared.status.Status.TheVariants as status
 use Rattle.elim_program.proofs.Accepted.{own-core}
 use Rattle.elim_program.proofs.Lines.{core-lines-append}
 use Rattle.elim_program.proofs.OneOutput.{not-both-asked, same-command, work-no-compile}

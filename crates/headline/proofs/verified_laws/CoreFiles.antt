@@ -23,8 +23,8 @@ use Rattle.elim_program.specs.DefinedOutputs.{IsOutput, verifies}
 use Rattle.elim_program.specs.Outputs.{Block, block, compiled, followed}
 use Rattle.elim_program.specs.Verifies.{after_entry, after_head, file_block, entries, entry_block, next_block, read_name, verified_line}
 use Rattle.elim_program.specs.VerifyHeadline.{Holds, head, entry}
-use Rattle.elim_program.specs.Texts.{limited}
-use Rattle.elim_program.specs.Words.{verify_asked}
+use Rattle.program_texts.specs.Texts.{limited}
+use Rattle.program_texts.specs.Words.{verify_asked}
 use Rattle.elim_program.proofs.Entries.{bound_is_enough}
 use Rattle.headline.specs.verified_laws.Laws.{AcceptedIsVerified, AreNames, CoreFileIsVerified, EachIsNamed, entry_name, entry_names, IsFileOf, OutputVerifies, signature_after}
 use Rattle.headline.proofs.verified_laws.LetIn.{each-in, same-k}

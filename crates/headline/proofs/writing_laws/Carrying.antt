@@ -13,10 +13,9 @@ use Rattle.core_sig.specs.Settling.{renumbered_entry, settled_number}
 use Rattle.family_check.specs.Entering.{Entered, instance_of, axiom_k_of, define_of}
 use Rattle.family_check.specs.Outcomes.{FamilyStop}
 use Rattle.kernel_reduce.specs.Entries.{family_at}
-use Rattle.tree_translation.specs.Naming.{motive_name, step_name, helper_name}
+use Rattle.tree_translation.specs.Naming.{motive_name, step_name, helper_name, part_named}
 use Rattle.tree_translation.specs.Needed.{is_found}
 use Rattle.clause_reports.specs.DraftEntering.{Mention, Eliminates, AssumesK, Names, Entering, mentioned, with_entry, enter_eliminator, enter_axiom_k, enter_generated, enter_mention, enter_all, enter_entry, enter_with, enter_chain, longest_chain, enter_needed, enter_draft_of}
-use Rattle.clause_reports.specs.Equations.{part_named}
 use Rattle.clause_reports.specs.Generated.{Generated, name_of, generated_by, generated_draft}
 use Rattle.clause_reports.specs.Stops.{Halts, Reporting, answers, or_halts, or_rejected, entering}
 use Rattle.drafts.specs.draft_entering.Depths.{entry_own_name}

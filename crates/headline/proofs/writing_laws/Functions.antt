@@ -12,7 +12,7 @@ use Rattle.core_sig.specs.Drafts.{Draft}
 use Rattle.resolve.specs.Functions.{Function}
 use Rattle.tree_translation.specs.structural_rec.Uses.{Use}
 use Rattle.tree_translation.specs.Entries.{entries_with, helpers_before, and_more, motive_entry, step_entry, helper_entry, function_entry, side_names, part_term, step_telescope, step_goal, step_node, helper_node, function_by_recursion}
-use Rattle.tree_translation.specs.Naming.{motive_name, step_name, helper_name, rec_name}
+use Rattle.tree_translation.specs.Naming.{motive_name, step_name, helper_name, rec_name, part_named}
 use Rattle.tree_translation.specs.Plans.{Plan, Part, own_part as plan_part}
 use Rattle.tree_translation.specs.Recursion.{Recursion, recursion_of, order_of, ordered_telescope, ordered_term, first_positions}
 use Rattle.tree_translation.specs.Splits.{Node}
@@ -20,7 +20,6 @@ use Rattle.tree_translation.specs.TreeTerms.{tree_names}
 use Rattle.function_entries.specs.CodeEntries.{translate_made}
 use Rattle.exact_laws.proofs.translation_laws.MadeEntries.{translate_made-is_entries}
 use Rattle.clause_reports.specs.DraftEntering.{enter_draft_of, enter_needed, enter_mention, Names}
-use Rattle.clause_reports.specs.Equations.{part_named}
 use Rattle.clause_reports.specs.Stops.{ReportStop}
 use Rattle.drafts.specs.draft_checks.Checks.{enterable, unmarked}
 use Rattle.clause_lines.specs.CodeReports.{report_made}

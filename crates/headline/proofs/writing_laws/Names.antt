@@ -28,8 +28,7 @@ use Rattle.family_check.specs.Entering as entering
 use Rattle.family_check.specs.Outcomes.{OfType, OfBody}
 use Rattle.generators.specs.noconf_gen.NoConfusionTypes.{constructor_mark, constructor_name}
 use Rattle.tree_translation.specs.Naming as naming
-use Rattle.tree_translation.specs.Naming.{motive_name, step_name, helper_name}
-use Rattle.clause_reports.specs.Equations.{part_named}
+use Rattle.tree_translation.specs.Naming.{motive_name, step_name, helper_name, part_named}
 use Rattle.clause_reports.specs.Generated as gen
 use Rattle.clause_reports.specs.Generated.{Generated, name_of}
 use Rattle.drafts.specs.draft_entering.Tables.{IsListed}

@@ -19,7 +19,7 @@ use Rattle.resolve.specs.Resolving.{resolve}
 use Rattle.case_trees.specs.OwnWalks.{own_walk_of}
 use Rattle.case_trees.specs.Points.{under_solution}
 use Rattle.case_trees.specs.Trees.{split_of}
-use Rattle.clause_reports.specs.Equations.{part_named}
+use Rattle.tree_translation.specs.Naming.{part_named}
 use Rattle.tree_translation.specs.Plans.{Part}
 use Rattle.tree_translation.specs.Recursion.{Recursion}
 use Rattle.clause_reports.specs.elaboration.Functions.{helpers_finished, own_finished, own_part}

@@ -12,7 +12,7 @@ use Rattle.core_sig.specs.Settling.{renumbered}
 use Rattle.family_check.specs.Entering.{Entered}
 use Rattle.tree_translation.specs.Naming.{Naming, drafted_in_order, mentions, number_among, number_in, once, with_names}
 use Rattle.tree_translation.specs.Plans.{Plan}
-use Rattle.function_entries.specs.CodeNumbering.{names_at, numbered, places_of}
+use Rattle.leaf_terms.specs.CodeNumbering.{names_at, numbered, places_of}
 use Rattle.clause_reports.specs.DraftEntering.{enter_draft_of}
 use Rattle.clause_reports.specs.Equations.{Equation, part_name, pats_of, closed_type}
 use Rattle.clause_reports.specs.ProofWalks.{Place, Proof, leaves_in}

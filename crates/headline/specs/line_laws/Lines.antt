@@ -4,7 +4,8 @@ use Rattle.theory.specs.Terms.{Term}
 use Rattle.theory.specs.Signatures.{Definition, IsEntryAt, IsPrefix, Signature, equation}
 use Rattle.theory.specs.WellFormed.{IsDefinition, first_entries}
 use Rattle.tree_translation.specs.Plans.{Plan}
-use Rattle.clause_reports.specs.Equations.{Equation, equation_of, part_at, part_named, pats_of, closed_type}
+use Rattle.clause_reports.specs.Equations.{Equation, equation_of, part_at, pats_of, closed_type}
+use Rattle.tree_translation.specs.Naming.{part_named}
 use Rattle.clause_reports.specs.ProofTerms.{proof_name}
 use Rattle.clause_reports.specs.Reports.{Absurd, Proved, Reference, report_of, reported, some_absurd}
 use Rattle.clause_reports.specs.elaboration.Functions.{ClauseLine}

@@ -7,16 +7,16 @@ use Rattle.surface_syntax.specs.Trees.{Decl}
 use Rattle.function_laws.specs.declaration_laws.Meant.{elaborate_meant}
 use Rattle.elab_session.specs.declared.refusal.Refusal.{Refusal}
 use Rattle.function_session.specs.Elaborating.{Elaborated}
-use Rattle.elim_program.specs.Lines.{text_of}
+use Rattle.program_texts.specs.Lines.{text_of}
 use Rattle.elim_program.specs.Outputs.{Output, accepted_lines, compiled, declared_name, head_lines, usage}
-use Rattle.elim_program.specs.Refusals.{refused_lines}
+use Rattle.program_texts.specs.Refusals.{refused_lines}
 use Rattle.elim_program.specs.Runs.{IsWhole}
-use Rattle.elim_program.specs.Texts.{Answer, Gives, limited}
+use Rattle.program_texts.specs.Texts.{Answer, Gives, limited}
 use Rattle.elim_program.specs.Verifies.{file_block}
-use Rattle.elim_program.specs.Words.{asked, verify_asked, work_asked}
+use Rattle.program_texts.specs.Words.{asked, verify_asked, work_asked}
 use Rattle.elim_program.specs.WorkTexts.{work_text}
-use Rattle.elim_program.specs.declared.status.Status.{Status}
-use Rattle.elim_program.specs.declared.status.Status.TheVariants as statuses
+use Rattle.program_texts.specs.declared.status.Status.{Status}
+use Rattle.program_texts.specs.declared.status.Status.TheVariants as statuses
 use Rattle.headline.specs.meaning_laws.Meant.{Flags, Workload, compiled_meant, declarations_meant, work_meant}
 
 -- ---- the whole output

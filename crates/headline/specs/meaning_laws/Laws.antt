@@ -6,11 +6,11 @@ use Rattle.surface_syntax.specs.Trees.{Decl}
 use Rattle.elim_program.specs.DefinedOutputs.{IsOutput}
 use Rattle.elim_program.specs.Outputs.{Output, declarations}
 use Rattle.elim_program.specs.Runs.{Follows, Wrote}
-use Rattle.elim_program.specs.Texts.{Answer, Gives}
-use Rattle.elim_program.specs.Words.{asked, work_asked}
+use Rattle.program_texts.specs.Texts.{Answer, Gives}
+use Rattle.program_texts.specs.Words.{asked, work_asked}
 use Rattle.elim_program.specs.WorkTexts.{work_text}
-use Rattle.elim_program.specs.declared.status.Status.{Status}
-use Rattle.elim_program.specs.declared.status.Status.TheVariants.{NoMemory, ReadFault}
+use Rattle.program_texts.specs.declared.status.Status.{Status}
+use Rattle.program_texts.specs.declared.status.Status.TheVariants.{NoMemory, ReadFault}
 use Rattle.headline.specs.meaning_laws.Meant.{Flags, Workload, compiled_meant, declarations_meant, work_meant}
 
 -- For each source file that parses, the lines that are defined for its declarations one by one from the prelude on are those that are

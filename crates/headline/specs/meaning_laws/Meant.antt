@@ -6,9 +6,9 @@ use Rattle.theory.specs.Signatures.{Signature}
 use Rattle.surface_syntax.specs.Trees.{Decl}
 use Rattle.function_laws.specs.declaration_laws.Meant.{elaborate_meant}
 use Rattle.elim_program.specs.Outputs.{Block, Output, after, block, compiled, declared_block, followed}
-use Rattle.elim_program.specs.Refusals.{stop_line}
-use Rattle.elim_program.specs.Texts.{Answer}
-use Rattle.elim_program.specs.Words.{asked, work_asked}
+use Rattle.program_texts.specs.Refusals.{stop_line}
+use Rattle.program_texts.specs.Texts.{Answer}
+use Rattle.program_texts.specs.Words.{asked, work_asked}
 use Rattle.elim_program.specs.Works.{none_counted, on_worked, with_accepted, worked_block}
 
 -- the type of a value, and that of the value that an option holds

@@ -6,12 +6,12 @@ use Rattle.surface_syntax.specs.declared.token.Token.{Token}
 use Rattle.elab_session.specs.declared.refusal.Refusal.{Refusal}
 use Rattle.elim_program.specs.DefinedOutputs.{IsOutput}
 use Rattle.elim_program.specs.Headline.{IsShown}
-use Rattle.elim_program.specs.Lines.{lines_of, text_of}
+use Rattle.program_texts.specs.Lines.{lines_of, text_of}
 use Rattle.elim_program.specs.Outputs.{Output}
 use Rattle.elim_program.specs.Reading.{IsRead}
-use Rattle.elim_program.specs.Refusals.{refusal_text}
-use Rattle.elim_program.specs.Texts.{Gives}
-use Rattle.elim_program.specs.Unbuilt.{unbuilt}
+use Rattle.program_texts.specs.Refusals.{refusal_text}
+use Rattle.program_texts.specs.Texts.{Gives}
+use Rattle.program_texts.specs.Unbuilt.{unbuilt}
 use Rattle.elim_program.specs.VerifyHeadline.{IsVerified}
 use Rattle.headline.specs.program_laws.Answers.{SaysOf}
 use Rattle.headline.specs.program_laws.CoreFiles.{IsCoreFile, IsWritable}

@@ -7,7 +7,7 @@ use Rattle.function_session.specs.Evidence.{references_from}
 use Rattle.function_session.specs.Laws.{IsAsWritten}
 use Rattle.headline.specs.line_laws.Lines.{AreReported}
 use Rattle.elim_program.specs.Acceptance.{IsAccepted}
-use Rattle.elim_program.specs.Lines.{lines_of, text_of}
+use Rattle.program_texts.specs.Lines.{lines_of, text_of}
 use Rattle.headline.specs.program_laws.CoreFiles.{IsCoreFile, IsWritable}
 
 -- The lines of a function's clauses are the reports of its clauses in the plan of the run. Another declaration has no clauses.

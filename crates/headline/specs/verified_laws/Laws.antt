@@ -11,13 +11,13 @@ use Rattle.surface_syntax.specs.Trees.{Decl}
 use Rattle.function_session.specs.Elaborating.{elaborate_of}
 use Rattle.refusal_laws.specs.accepted_laws.Checked.{Checked}
 use Rattle.elim_program.specs.DefinedOutputs.{IsOutput}
-use Rattle.elim_program.specs.Lines.{text_of}
+use Rattle.program_texts.specs.Lines.{text_of}
 use Rattle.elim_program.specs.Outputs.{Output, after, block, compiled, declarations}
-use Rattle.elim_program.specs.Texts.{Gives, limit}
+use Rattle.program_texts.specs.Texts.{Gives, limit}
 use Rattle.elim_program.specs.Verifies.{after_head, verified_line}
 use Rattle.elim_program.specs.VerifyHeadline.{Holds}
-use Rattle.elim_program.specs.Words.{asked, command, default_fuel, verify_asked}
-use Rattle.elim_program.specs.declared.status.Status.TheVariants.{Done}
+use Rattle.program_texts.specs.Words.{asked, command, default_fuel, verify_asked}
+use Rattle.program_texts.specs.declared.status.Status.TheVariants.{Done}
 
 -- the signature after declarations, each of which may spend `fuel` units
 abbrev pub signature_after : (fuel : ℕ) → Signature → List Decl → Signature

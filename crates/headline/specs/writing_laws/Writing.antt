@@ -10,7 +10,7 @@ use Rattle.resolve.specs.Functions.{Function, function}
 use Rattle.function_session.specs.function_lines.FunctionMade.{plan_over}
 use Rattle.function_session.specs.Elaborating.{Elaborated, elaborate_of}
 use Rattle.elim_program.specs.Acceptance.{Accepts}
-use Rattle.elim_program.specs.Texts.{Gives}
+use Rattle.program_texts.specs.Texts.{Gives}
 use Rattle.headline.specs.program_laws.CoreFiles.{IsLowEntry, IsWritable}
 use Rattle.surface_syntax.specs.word_laws.Words.{Each}
 

@@ -11,7 +11,7 @@ use Rattle.run_terms.proofs.MadeTerms.{if-both}
 use Rattle.split_terms.specs.CodeSplits.{split_names_made, split_node_made}
 use Rattle.split_terms.specs.Laws.{StepsAreThese}
 use Rattle.split_terms.proofs.SplitsMade.{node-is, split-names-are}
-use Rattle.function_entries.specs.CodeNumbering.{numbered}
+use Rattle.leaf_terms.specs.CodeNumbering.{numbered}
 use Rattle.clause_reports.specs.Equations.{part_at, part_name, closed_type}
 use Rattle.clause_reports.specs.ProofTerms.{all_proof_names, goal_node, proof_names, proof_term, proof_terms}
 use Rattle.clause_reports.specs.ProofWalks.{Ends, Splits, Proofs, nil, cons}

@@ -9,7 +9,7 @@ use Rattle.core_terms.specs.declared.stop.Stop.{Stop}
 use Rattle.core_sig.specs.Drafts.{Draft}
 use Rattle.tree_translation.specs.Naming.{Naming, number_in, with_names}
 use Rattle.split_terms.specs.CodeSplits.{split_names_made, split_node_made}
-use Rattle.function_entries.specs.CodeNumbering.{numbered}
+use Rattle.leaf_terms.specs.CodeNumbering.{numbered}
 use Rattle.clause_reports.specs.Equations.{Equation, closed_type}
 use Rattle.clause_reports.specs.ProofTerms.{goal_node}
 use Rattle.clause_reports.specs.ProofWalks.{Proof, Ends, Splits, Proofs, nil, cons}

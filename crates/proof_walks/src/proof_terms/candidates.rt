@@ -11,7 +11,7 @@ use crate::proof_terms::proof::Proof;
 use crate::proof_terms::terms::{equation, proof_names, proof_term};
 use core_sig::{Draft, Signature};
 use core_terms::{Items, Name, Stop, Term, copy_tele, functions, products};
-use function_entries::numbered;
+use leaf_terms::numbered;
 use run_terms::outlines::whole;
 use run_terms::{Naming, with_names};
 use std::alloc::Global;

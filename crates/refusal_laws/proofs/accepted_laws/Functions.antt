@@ -11,7 +11,7 @@ use Rattle.tree_translation.specs.Entries.{translate}
 use Rattle.tree_translation.specs.Plans.{Plan, Part}
 use Rattle.tree_translation.specs.Recursion.{Recursion}
 use Rattle.clause_reports.specs.DraftEntering.{enter_draft_of, enter_needed, enter_mention, Names}
-use Rattle.clause_reports.specs.Equations.{part_named}
+use Rattle.tree_translation.specs.Naming.{part_named}
 use Rattle.clause_reports.specs.Generated.{all_name}
 use Rattle.clause_reports.specs.Reports.{Reference, report_of}
 use Rattle.clause_reports.specs.Stops.{Reporting}

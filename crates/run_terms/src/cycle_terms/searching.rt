@@ -10,7 +10,7 @@ use case_below_gen::constructor_of;
 use core_sig::{Arg, ArgKind, Family};
 use core_terms::Term;
 use generators::acyclic_gen::Carrier;
-use unifier::variable_in;
+use problems::variable_in;
 
 /// A search for the variable `x` below constructors of a family, which has a number, at parameters. All are at one depth.
 #[derive(Clone, Copy)]

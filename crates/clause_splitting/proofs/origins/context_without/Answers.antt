@@ -1,5 +1,5 @@
 use Rattle.std.proofs.Common.{arith}
-use Rattle.unifier.proofs.Rooms.{code-few}
+use Rattle.problems.proofs.Rooms.{code-few}
 use Rattle.clause_splitting.proofs.origins.context_without.Goals as goal
 
 pub new_context-requires-clause-depth : goal.new_context-requires-clause-depth

@@ -1,6 +1,6 @@
 use Rattle.std.proofs.Common.{arith}
 use Rattle.core_terms.specs.Meanings.{tele_of}
-use Rattle.unifier.proofs.Rooms.{code-few, types-low}
+use Rattle.problems.proofs.Rooms.{code-few, types-low}
 use Rattle.clause_splitting.proofs.origins.order_without.Goals as goal
 
 pub overflow_cast-ctx : goal.overflow_cast-ctx

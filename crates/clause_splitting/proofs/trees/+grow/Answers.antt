@@ -4,7 +4,7 @@ use Rattle.std.proofs.lemmas.Result.{err_from_is_err_and}
 use Rattle.core_terms.specs.Meanings.{tree_of, tele_of}
 use Rattle.core_terms.specs.TreeMeanings.{branch_of, branches_of, case_tree_of, steps_of}
 use Rattle.case_trees.proofs.pattern_vectors.CommonColumns.{rest-of}
-use Rattle.unifier.specs.Meanings.{outcome_of}
+use Rattle.problems.specs.Meanings.{outcome_of}
 use Rattle.clause_walks.specs.Forgetting.{forgetting_live, grows_on}
 use Rattle.clause_walks.specs.LookMeanings.{ends_of, ran_of, reached_of}
 use Rattle.clause_walks.specs.PointMeanings.{point_of}

@@ -4,7 +4,7 @@ use Rattle.core_terms.specs.Meanings.{tele_of}
 use Rattle.clause_walks.specs.LookMeanings.{reached_of, stuck_stop, unmatched_stop}
 use Rattle.clause_walks.specs.Stops.{Yields}
 use Rattle.clause_walks.proofs.LookCodes.{code-forced, code-found, code-refused, code-stuck}
-use Rattle.clause_walks.proofs.RunCodes.{first-item}
+use Rattle.problems.proofs.LowTerms.{first-item}
 use Rattle.clause_walks.proofs.looking.+look_from.Goals as goal
 
 pub returns-in_err-found-clause-answer : goal.returns-in_err-found-clause-answer

@@ -2,10 +2,12 @@ use Rattle.std.proofs.Common.{length, sym, ap, ◌∙◌, subst as transport}
 use Rattle.std.proofs.lemmas.Result.{err_from_is_err_and}
 use Rattle.core_terms.specs.Meanings.{tele_of}
 use Rattle.core_terms.proofs.Builders.{ok_is}
-use Rattle.clause_walks.specs.LookMeanings.{member_meant, ran_of, runs_of, sorted_as, stuck_of}
+use Rattle.clause_walks.specs.LookMeanings.{ran_of, runs_of, sorted_as, stuck_of}
+use Rattle.problems.specs.MemberMeanings.{member_meant}
 use Rattle.clause_walks.specs.Stops.{Yields}
 use Rattle.clause_walks.specs.declared.stops.TreeStop.TheVariants.{Stop}
-use Rattle.clause_walks.proofs.RunCodes.{code-goes, code-refused, code-stuck, first-item}
+use Rattle.clause_walks.proofs.RunCodes.{code-goes, code-refused, code-stuck}
+use Rattle.problems.proofs.LowTerms.{first-item}
 use Rattle.clause_walks.proofs.running.+run_from.Goals as goal
 
 pub returns-in_err-run_one-clause-answer : goal.returns-in_err-run_one-clause-answer

@@ -2,9 +2,10 @@ use Rattle.std.proofs.Common.{length}
 use Rattle.std.proofs.lemmas.List.{length-map}
 use Rattle.std.proofs.lemmas.Result.{err_from_is_err_and}
 use Rattle.core_terms.specs.Meanings.{tree_of, tele_of}
-use Rattle.unifier.specs.Meanings.{outcome_of, problem_of as problem_meant}
-use Rattle.clause_walks.specs.LookMeanings.{member_meant, ran_of}
-use Rattle.clause_walks.proofs.Members.{problem-meant-scoped}
+use Rattle.problems.specs.Meanings.{outcome_of, problem_of as problem_meant}
+use Rattle.clause_walks.specs.LookMeanings.{ran_of}
+use Rattle.problems.specs.MemberMeanings.{member_meant}
+use Rattle.problems.proofs.FamilyMembers.{problem-meant-scoped}
 use Rattle.clause_walks.proofs.RunCodes.{code-deep, code-ends}
 use Rattle.clause_walks.proofs.running.run_one.Goals as goal
 

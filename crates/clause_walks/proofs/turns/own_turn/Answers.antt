@@ -2,7 +2,7 @@ use Rattle.std.proofs.Common.{ap}
 use Rattle.std.proofs.lemmas.Result.{err_from_is_err_and}
 use Rattle.core_terms.specs.Meanings.{tele_of}
 use Rattle.core_terms.specs.TreeMeanings.{steps_of}
-use Rattle.unifier.specs.Meanings.{outcome_of}
+use Rattle.problems.specs.Meanings.{outcome_of}
 use Rattle.clause_walks.specs.Meanings.{pairs_of}
 use Rattle.clause_walks.specs.PointMeanings.{point_of}
 use Rattle.clause_walks.specs.WalkMeanings.{next_meant}

@@ -4,7 +4,7 @@ use Rattle.core_terms.specs.Answers.{Runs}
 use Rattle.core_terms.specs.Meanings.{tele_of}
 use Rattle.case_trees.specs.Pairs as spec
 use Rattle.case_trees.specs.Working.{work_pairs}
-use Rattle.unifier.specs.Conditions.{most_levels}
+use Rattle.problems.specs.Conditions.{most_levels}
 use Rattle.clause_walks.specs.CodeWorking.{rooms_of}
 use Rattle.clause_walks.specs.Meanings.{pair_of, pairs_of, behind}
 use Rattle.clause_walks.specs.declared.pairs.Pair.TheFolds.{the_lemmas}

@@ -6,12 +6,13 @@ use Rattle.core_terms.specs.Meanings.{tree_of, tele_of}
 use Rattle.core_terms.specs.PatternMeanings.{pats_of}
 use Rattle.case_trees.specs.Pairs.{waiting}
 use Rattle.case_trees.specs.Working.{of_arguments, work_patterns}
-use Rattle.unifier.specs.Conditions.{most_levels}
-use Rattle.unifier.proofs.BuiltCodes.{from_code}
+use Rattle.problems.specs.Conditions.{most_levels}
+use Rattle.problems.proofs.BuiltCodes.{from_code}
 use Rattle.clause_walks.specs.CodeWorking.{rooms_of}
 use Rattle.clause_walks.specs.Meanings.{pairs_of, behind}
 use Rattle.clause_walks.specs.declared.pairs.Pair.TheFolds.{the_lemmas}
-use Rattle.clause_walks.proofs.BuiltPairs.{is-as, built-refused, built-go, arguments-scoped}
+use Rattle.clause_walks.proofs.BuiltPairs.{built-refused, built-go}
+use Rattle.problems.proofs.BuiltArguments.{is-as, arguments-scoped}
 use Rattle.clause_walks.proofs.WorkingCodes.{gives-runs, clash-behind, clean-behind, patterns-none, patterns-no_terms, rest-patterns-smaller, rest-scoped, made-refused, made-answered}
 use Rattle.clause_walks.proofs.working.+working.Goals as goal
 

@@ -1,9 +1,10 @@
 use Rattle.std.proofs.Common.{◌++◌, ◌∷◌, [], codes, map, sym, ap, ◌∙◌}
-use Rattle.elim_program.specs.ClauseTexts.{clause_lines, clauses_text}
-use Rattle.elim_program.specs.Lines.{text_of}
+use Rattle.program_texts.specs.ClauseTexts.{clause_lines, clauses_text}
+use Rattle.program_texts.specs.Lines.{text_of}
 use Rattle.elim_program.specs.Outputs as spec
 use Rattle.function_session.specs.function_lines.LineMeanings.{clause_line_of}
-use Rattle.elim_program.proofs.TextLines.{on_both, text_both, clauses_are}
+use Rattle.elim_program.proofs.TextLines.{text_both, clauses_are}
+use Rattle.program_texts.proofs.WrittenTexts.{on_both}
 use Rattle.elim_program.proofs.block.write_end.Goals as goal
 
 pub returns-clause-ok : goal.returns-clause-ok

@@ -1,8 +1,9 @@
 use Rattle.std.proofs.Common.{◌++◌, codes}
-use Rattle.elim_program.specs.ClauseTexts as spec
-use Rattle.elim_program.specs.Lines.{text_of}
+use Rattle.program_texts.specs.ClauseTexts as spec
+use Rattle.program_texts.specs.Lines.{text_of}
 use Rattle.function_session.specs.function_lines.LineMeanings.{clause_line_of}
-use Rattle.elim_program.proofs.TextLines.{on_both, leaves_text}
+use Rattle.elim_program.proofs.TextLines.{leaves_text}
+use Rattle.program_texts.proofs.WrittenTexts.{on_both}
 use Rattle.elim_program.proofs.clause_texts.write_with_leaves.Goals as goal
 
 pub returns-clause-ok : goal.returns-clause-ok

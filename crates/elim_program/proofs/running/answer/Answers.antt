@@ -1,6 +1,6 @@
 use Rattle.std.proofs.Common.{subst}
 use Rattle.std.specs.Prelude.{map, string_bytes}
-use Rattle.elim_program.specs.Words.{Asks}
+use Rattle.program_texts.specs.Words.{Asks}
 use Rattle.elim_program.proofs.running.answer.Goals as goal
 
 pub returns-in-Ok-Compile-clause-wrote : goal.returns-in-Ok-Compile-clause-wrote

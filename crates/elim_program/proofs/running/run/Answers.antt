@@ -1,7 +1,7 @@
 use Rattle.std.proofs.Common.{◌≡◌, false, ap, sym, ◌∙◌, Err, rules}
 use Rattle.std.specs.Prelude.{map, string_bytes}
-use Rattle.elim_program.specs.Words.{asks_for_source}
-use Rattle.elim_program.proofs.Asking.{none_found}
+use Rattle.program_texts.specs.Words.{asks_for_source}
+use Rattle.program_texts.proofs.Asking.{none_found}
 use Rattle.elim_program.proofs.Whole.{complete, unaccepted_runs, unread_runs, stopped_runs, stop_of, not_write_fault}
 use Rattle.elim_program.proofs.running.run.Goals as goal
 

@@ -2,7 +2,7 @@ use Rattle.std.proofs.Common.{subst}
 use Rattle.elim_program.specs.DefinedOutputs.{verifies}
 use Rattle.elim_program.specs.Outputs.{compiled}
 use Rattle.elim_program.specs.Runs.{Follows}
-use Rattle.elim_program.specs.Texts.{limited}
+use Rattle.program_texts.specs.Texts.{limited}
 use Rattle.elim_program.specs.Verifies.{file_block}
 use Rattle.elim_program.proofs.Whole.{follow}
 use Rattle.elim_program.proofs.verifying.verify.Goals as goal

@@ -2,7 +2,7 @@ use Rattle.std.proofs.Common.{◌≡◌, length}
 use Rattle.core_sig.specs.Meanings.{entry_of}
 use Rattle.core_text.specs.RawEntries.{entry_shown}
 use Rattle.elim_program.specs.Verifies.{read_block}
-use Rattle.elim_program.specs.declared.status.Status.TheVariants.{NoMemory}
+use Rattle.program_texts.specs.declared.status.Status.TheVariants.{NoMemory}
 use Rattle.elim_program.proofs.Following.{no_block}
 use Rattle.elim_program.proofs.verifying.write_entry_line.Goals as goal
 

@@ -1,7 +1,7 @@
 use Rattle.std.proofs.Common.{sym, ◌∙◌}
 use Rattle.core_text.specs.Heads.{head_of}
 use Rattle.elim_program.proofs.Entries.{written-file}
-use Rattle.elim_program.proofs.FileHeads.{is-head}
+use Rattle.program_texts.proofs.FileHeads.{is-head}
 use Rattle.elim_program.proofs.verifying.write_file.Goals as goal
 
 pub write_entry_lines-requires : goal.write_entry_lines-requires

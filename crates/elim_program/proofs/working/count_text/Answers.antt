@@ -1,8 +1,8 @@
 use Rattle.std.proofs.Common.{sym, ◌∙◌}
 use Rattle.elim_program.specs.DefinedOutputs.{works}
-use Rattle.elim_program.specs.Texts.{answer_of}
+use Rattle.program_texts.specs.Texts.{answer_of}
 use Rattle.elim_program.specs.WorkTexts.{work_text}
-use Rattle.elim_program.proofs.Asking.{Failure, Success, not_memory}
+use Rattle.program_texts.proofs.Asking.{Failure, Success, not_memory}
 use Rattle.elim_program.proofs.Whole.{follow}
 use Rattle.elim_program.proofs.working.count_text.Goals as goal
 

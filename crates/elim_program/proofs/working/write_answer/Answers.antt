@@ -1,4 +1,4 @@
-use Rattle.elim_program.specs.Texts.{answer_of}
+use Rattle.program_texts.specs.Texts.{answer_of}
 use Rattle.elim_program.specs.Works.{work_block}
 use Rattle.elim_program.proofs.Following.{no_block}
 use Rattle.elim_program.proofs.working.write_answer.Goals as goal

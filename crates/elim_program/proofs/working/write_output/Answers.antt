@@ -1,6 +1,6 @@
 use Rattle.std.proofs.Common.{true, false, Ok, subst}
 use Rattle.elim_program.specs.Runs.{Written}
-use Rattle.elim_program.specs.Texts.{answer_of}
+use Rattle.program_texts.specs.Texts.{answer_of}
 use Rattle.elim_program.specs.Works.{work_block}
 use Rattle.elim_program.proofs.Following.{head_part, body_part, body_whole}
 use Rattle.elim_program.proofs.working.write_output.Goals as goal

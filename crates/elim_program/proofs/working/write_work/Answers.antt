@@ -1,6 +1,6 @@
 use Rattle.std.proofs.Common.{◌≡◌, inr}
 use Rattle.elim_program.specs.Runs.{nothing}
-use Rattle.elim_program.specs.declared.status.Status.TheVariants.{NoMemory}
+use Rattle.program_texts.specs.declared.status.Status.TheVariants.{NoMemory}
 use Rattle.elim_program.proofs.Following.{appends-nothing}
 use Rattle.elim_program.proofs.working.write_work.Goals as goal
 

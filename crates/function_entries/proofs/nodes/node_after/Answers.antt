@@ -4,7 +4,7 @@ use Rattle.theory.specs.Families.{Constructor}
 use Rattle.core_terms.specs.Answers.{Gives}
 use Rattle.core_terms.specs.TreeMeanings.{steps_of}
 use Rattle.core_sig.specs.Meanings.{constructor_of}
-use Rattle.clause_walks.specs.LookMeanings.{member_meant}
+use Rattle.problems.specs.MemberMeanings.{member_meant}
 use Rattle.split_terms.specs.NodeMeanings.{node_of}
 use Rattle.function_entries.specs.CodeTrees.{node_after}
 use Rattle.function_entries.proofs.nodes.node_after.Goals as goal

@@ -2,7 +2,7 @@ use Rattle.std.proofs.Common.{Ok, length, refl, subst as transport}
 use Rattle.core_terms.specs.Answers.{Gives}
 use Rattle.core_terms.specs.TreeMeanings.{steps_of}
 use Rattle.core_sig.specs.Meanings.{constructor_of}
-use Rattle.clause_walks.specs.LookMeanings.{member_meant}
+use Rattle.problems.specs.MemberMeanings.{member_meant}
 use Rattle.tree_translation.specs.TreeTerms as trees
 use Rattle.split_terms.specs.NodeMeanings.{node_of}
 use Rattle.split_terms.proofs.BareRuns.{end-bare}

@@ -13,7 +13,7 @@ use Rattle.core_terms.specs.Clauses.{Clause, Clauses, Is, Right}
 use Rattle.case_trees.specs.OwnWalks.{own_walk_of}
 use Rattle.case_trees.specs.Points.{under_solution}
 use Rattle.case_trees.specs.Trees.{split_of}
-use Rattle.clause_reports.specs.Equations.{part_named}
+use Rattle.tree_translation.specs.Naming.{part_named}
 use Rattle.clause_reports.specs.elaboration.Functions.{helper_level, helpers_finished, own_finished, own_part, plan_of, position_chosen, recursion_in}
 use Rattle.clause_reports.specs.elaboration.Refusals.{OfGoal, OfSide, OfWith, Owner, answers, granted, halting, level_too_high, or_halts, owner_of, walking}
 use Rattle.clause_reports.specs.elaboration.Walking.{Given, Opened, Opening, Session, Walked, and_level, greatest_level, if_low_level, open_over, opened, walk_clause, walk_clauses, walk_right, without_self}

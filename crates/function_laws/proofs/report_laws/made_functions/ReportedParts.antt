@@ -4,7 +4,7 @@ use Rattle.theory.specs.Signatures.{Signature}
 use Rattle.core_terms.specs.Answers.{and_next}
 use Rattle.core_terms.specs.CaseTrees.{Walk}
 use Rattle.tree_translation.specs.Plans.{Part, Plan}
-use Rattle.clause_reports.specs.Equations.{part_named}
+use Rattle.tree_translation.specs.Naming.{part_named}
 use Rattle.clause_reports.specs.Reports.{Reported, report_of}
 use Rattle.clause_reports.specs.Stops.{ReportStop, Reporting}
 use Rattle.drafts.proofs.draft_entering.Entered.{next-assoc}

@@ -5,7 +5,7 @@ use Rattle.core_terms.proofs.Builders.{ok_is}
 use Rattle.tree_translation.specs.Recursion.{ordered_telescope}
 use Rattle.function_plans.proofs.Starts.{start-clauses, start-few, start-given, starts}
 use Rattle.function_checks.specs.function_walks.WalkingMeanings.{walked_of}
-use Rattle.unifier.specs.Conditions.{most_levels}
+use Rattle.problems.specs.Conditions.{most_levels}
 use Rattle.function_plans.proofs.trees.tree_in_order.Goals as goal
 
 pub tree_of_clauses-requires-clause-given : goal.tree_of_clauses-requires-clause-given

@@ -1,7 +1,7 @@
 use Rattle.std.proofs.Common.{true, length, arith}
 use Rattle.std.proofs.lemmas.List.{length-map}
 use Rattle.core_terms.specs.Meanings.{tree_of, tele_of}
-use Rattle.unifier.proofs.RecordSizes.{scoped-over}
+use Rattle.problems.proofs.RecordSizes.{scoped-over}
 use Rattle.clause_walks.proofs.LookCodes.{head-given, scoped-reduces, type-made}
 use Rattle.proof_walks.proofs.nodes.reduced_type.Goals as goal
 

@@ -1,5 +1,5 @@
 use Rattle.std.proofs.Common.{IfSome, length, subst as transport}
-use Rattle.clause_walks.specs.LookConditions.{IsMember}
+use Rattle.problems.specs.MemberConditions.{IsMember}
 use Rattle.proof_walks.proofs.nodes.with_type.Goals as goal
 
 pub returns-in-Some-clause-found : goal.returns-in-Some-clause-found

@@ -7,8 +7,9 @@ use Rattle.core_terms.specs.declared.case_tree.Branch.TheFolds.{the_lemmas}
 use Rattle.core_terms.proofs.Builders.{ok_is}
 use Rattle.clause_reports.specs.ProofWalks.{Proofs, at_origin}
 use Rattle.clause_reports.specs.Stops.{Reporting}
-use Rattle.clause_walks.specs.LookMeanings.{ends_of, member_meant, runs_of}
-use Rattle.clause_walks.proofs.RunCodes.{first-item}
+use Rattle.clause_walks.specs.LookMeanings.{ends_of, runs_of}
+use Rattle.problems.specs.MemberMeanings.{member_meant}
+use Rattle.problems.proofs.LowTerms.{first-item}
 use Rattle.drafts.specs.draft_entering.Stops.{Reports, stop_of}
 use Rattle.proof_walks.specs.proof_terms.ProofMeanings.{place_of, proof_of, proofs_of}
 use Rattle.proof_walks.specs.NodeWalks.{again, walk_node}

@@ -2,7 +2,7 @@ use Rattle.std.proofs.Common.{Ok, sym, subst as transport}
 use Rattle.theory.specs.Terms.{Term}
 use Rattle.core_terms.specs.Answers.{Gives}
 use Rattle.core_terms.specs.Meanings.{tree_of}
-use Rattle.unifier.proofs.Lowering.{lowered-is}
+use Rattle.problems.proofs.Lowering.{lowered-is}
 use Rattle.run_terms.proofs.comparisons.lowered.Goals as goal
 
 pub returns : goal.returns

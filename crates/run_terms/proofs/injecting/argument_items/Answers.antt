@@ -8,7 +8,7 @@ use Rattle.core_terms.specs.Meanings.{tree_of, tele_of}
 use Rattle.core_sig.specs.declared.family.Arg.{Arg}
 use Rattle.tele_eq.specs.Items.{Item, items_of}
 use Rattle.unification.specs.Records.{items_at}
-use Rattle.unifier.proofs.RecordItems.{argument-items-of}
+use Rattle.problems.proofs.RecordItems.{argument-items-of}
 use Rattle.run_terms.proofs.injecting.argument_items.Goals as goal
 
 pub returns : goal.returns

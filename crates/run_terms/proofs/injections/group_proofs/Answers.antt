@@ -6,7 +6,7 @@ use Rattle.core_terms.specs.Meanings.{tele_of}
 use Rattle.core_terms.proofs.Builders.{ok_is}
 use Rattle.core_sig.specs.Meanings.{argument_of}
 use Rattle.unification.specs.Injecting.{lifted}
-use Rattle.unifier.proofs.KnownRecords.{count-lifted}
+use Rattle.problems.proofs.KnownRecords.{count-lifted}
 use Rattle.run_terms.specs.CodeInjections.{proofs_after}
 use Rattle.run_terms.specs.ComparisonMeanings.{comparison_of}
 use Rattle.run_terms.proofs.injections.group_proofs.Goals as goal

@@ -7,7 +7,7 @@ use Rattle.core_terms.proofs.Builders.{ok_is}
 use Rattle.tele_eq.specs.Items.{items_of}
 use Rattle.tele_eq.specs.declared.item.Item as item
 use Rattle.unification.specs.States.{Equation}
-use Rattle.unifier.specs.CodeInjections.{equations_joined}
+use Rattle.problems.specs.CodeInjections.{equations_joined}
 use Rattle.run_terms.specs.CodeInjections.{terms_at}
 use Rattle.run_terms.specs.ComparisonMeanings.{comparison_of}
 use Rattle.run_terms.specs.StandingMeanings.{equations_of, state_of}

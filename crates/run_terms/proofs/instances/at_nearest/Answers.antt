@@ -4,7 +4,7 @@ use Rattle.theory.specs.Telescopes.{applied, variables}
 use Rattle.core_terms.specs.Answers.{Gives}
 use Rattle.core_terms.specs.Meanings.{tree_of, tele_of}
 use Rattle.core_terms.proofs.Builders.{ok_is}
-use Rattle.unifier.proofs.RecordItems.{nearest-is}
+use Rattle.problems.proofs.RecordItems.{nearest-is}
 use Rattle.run_terms.proofs.instances.at_nearest.Goals as goal
 
 pub returns : goal.returns

@@ -1,7 +1,7 @@
 use Rattle.std.proofs.Common.{ℕ, ◌+◌, ◌*◌, Option, Some, None}
 use Rattle.theory.specs.Terms.{height}
 use Rattle.core_terms.specs.Meanings.{tree_of}
-use Rattle.unifier.specs.declared.moving.Solution.{Solution}
+use Rattle.problems.specs.declared.moving.Solution.{Solution}
 use Rattle.run_terms.specs.declared.places.Places.{Places}
 use Rattle.run_terms.specs.declared.places.Places.TheVariants as place
 use Rattle.run_terms.proofs.places.+put.Given as goal

@@ -1,7 +1,7 @@
 use Rattle.std.proofs.Common.{Ok, ℕ, subst as transport}
 use Rattle.core_terms.specs.Answers.{Gives}
 use Rattle.core_terms.specs.Meanings.{tree_of}
-use Rattle.unifier.specs.CodeMoves.{solved_equations}
+use Rattle.problems.specs.CodeMoves.{solved_equations}
 use Rattle.run_terms.specs.StandingMeanings.{equations_of, state_of}
 use Rattle.run_terms.proofs.replays.after_solved.Goals as goal
 

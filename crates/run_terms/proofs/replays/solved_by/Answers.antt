@@ -4,7 +4,7 @@ use Rattle.core_terms.specs.Answers.{Gives}
 use Rattle.core_terms.specs.Meanings.{tree_of}
 use Rattle.core_terms.proofs.Builders.{ok_is}
 use Rattle.unification.specs.Rules.{level_of}
-use Rattle.unifier.specs.declared.moving.Solution.{Solution}
+use Rattle.problems.specs.declared.moving.Solution.{Solution}
 use Rattle.tree_translation.specs.Standings.{Standing}
 use Rattle.run_terms.specs.StandingMeanings.{standing_of}
 use Rattle.run_terms.proofs.SolvedStandings.{solved-by-is}

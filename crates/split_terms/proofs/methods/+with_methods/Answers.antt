@@ -4,8 +4,8 @@ use Rattle.core_terms.specs.Answers.{Gives}
 use Rattle.core_terms.specs.TreeMeanings.{steps_of}
 use Rattle.core_terms.proofs.Builders.{ok_is}
 use Rattle.core_sig.specs.Meanings.{constructor_of}
-use Rattle.clause_walks.specs.LookMeanings.{member_meant}
-use Rattle.clause_walks.proofs.RunCodes.{first-item}
+use Rattle.problems.specs.MemberMeanings.{member_meant}
+use Rattle.problems.proofs.LowTerms.{first-item}
 use Rattle.run_terms.specs.outlines.OutlineMeanings.{outline_of, outlines_of}
 use Rattle.run_terms.specs.CodeNaming.{naming_of}
 use Rattle.split_terms.specs.NodeMeanings.{node_of}

@@ -2,7 +2,7 @@ use Rattle.std.proofs.Common.{length, subst as transport}
 use Rattle.core_terms.specs.Answers.{Gives}
 use Rattle.core_terms.specs.TreeMeanings.{steps_of}
 use Rattle.core_sig.specs.Meanings.{constructor_of}
-use Rattle.clause_walks.specs.LookMeanings.{member_meant}
+use Rattle.problems.specs.MemberMeanings.{member_meant}
 use Rattle.run_terms.specs.outlines.OutlineMeanings.{outline_of}
 use Rattle.run_terms.specs.CodeNaming.{naming_of}
 use Rattle.split_terms.specs.NodeMeanings.{node_of}

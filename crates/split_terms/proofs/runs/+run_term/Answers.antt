@@ -1,7 +1,7 @@
 use Rattle.std.proofs.Common.{map, ap, subst as transport}
 use Rattle.core_terms.specs.Answers.{Gives}
 use Rattle.core_terms.specs.TreeMeanings.{step_of, steps_of}
-use Rattle.clause_walks.proofs.RunCodes.{first-item}
+use Rattle.problems.proofs.LowTerms.{first-item}
 use Rattle.run_terms.specs.outlines.OutlineMeanings.{outline_of}
 use Rattle.run_terms.specs.CodeNaming.{naming_of}
 use Rattle.run_terms.specs.StandingMeanings.{standing_of}

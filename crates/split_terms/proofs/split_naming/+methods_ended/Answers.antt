@@ -3,8 +3,8 @@ use Rattle.std.proofs.lemmas.Result.{err_from_is_err_and}
 use Rattle.core_terms.specs.Answers.{Gives}
 use Rattle.core_terms.specs.TreeMeanings.{steps_of}
 use Rattle.core_sig.specs.Meanings.{constructor_of}
-use Rattle.clause_walks.specs.LookMeanings.{member_meant}
-use Rattle.clause_walks.proofs.RunCodes.{first-item}
+use Rattle.problems.specs.MemberMeanings.{member_meant}
+use Rattle.problems.proofs.LowTerms.{first-item}
 use Rattle.split_terms.specs.NodeMeanings.{named_nodes_of, node_of}
 use Rattle.split_terms.proofs.MethodSteps.{ended-deep, ended-next}
 use Rattle.split_terms.proofs.split_naming.+methods_ended.Goals as goal

@@ -2,7 +2,7 @@ use Rattle.std.proofs.Common.{length, map, subst as transport}
 use Rattle.core_terms.specs.Answers.{Gives}
 use Rattle.core_terms.specs.TreeMeanings.{steps_of}
 use Rattle.core_sig.specs.Meanings.{constructor_of}
-use Rattle.clause_walks.specs.LookMeanings.{member_meant}
+use Rattle.problems.specs.MemberMeanings.{member_meant}
 use Rattle.split_terms.specs.NodeMeanings.{named_nodes_of, node_of}
 use Rattle.split_terms.proofs.BareRuns.{branch-ended-bare}
 use Rattle.split_terms.proofs.split_naming.branch_ended.Goals as goal

@@ -1,7 +1,7 @@
 use Rattle.std.proofs.Common.{subst as transport}
 use Rattle.core_terms.specs.Answers.{Gives}
 use Rattle.core_terms.specs.Meanings.{tree_of}
-use Rattle.clause_walks.specs.LookMeanings.{member_meant}
+use Rattle.problems.specs.MemberMeanings.{member_meant}
 use Rattle.run_terms.specs.outlines.OutlineMeanings.{outline_of}
 use Rattle.split_terms.proofs.OutlinedParts.{end-next}
 use Rattle.split_terms.proofs.splitting.split_end.Goals as goal

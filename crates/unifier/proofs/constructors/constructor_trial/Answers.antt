@@ -1,6 +1,6 @@
 use Rattle.std.proofs.Common.{length}
 use Rattle.core_terms.specs.Meanings.{tree_of}
-use Rattle.unifier.proofs.GivenTerms.{given-more, code-equation}
+use Rattle.problems.proofs.GivenTerms.{given-more, code-equation}
 use Rattle.unifier.proofs.constructors.constructor_trial.Goals as goal
 
 pub heads-requires-clause-left : goal.heads-requires-clause-left

@@ -6,12 +6,12 @@ use Rattle.core_terms.specs.declared.case_tree.Rule.TheVariants.{Inject}
 use Rattle.theory.specs.Spines.{spine_of}
 use Rattle.theory.specs.Terms.{Term}
 use Rattle.unification.specs.Turns.{single}
-use Rattle.unifier.specs.Conditions.{AreGiven}
-use Rattle.unifier.specs.Meanings.{equation_of, state_of}
-use Rattle.unifier.proofs.GivenTerms.{given-more, code-equation, take-given, spine-given}
+use Rattle.problems.specs.Conditions.{AreGiven}
+use Rattle.problems.specs.Meanings.{equation_of, state_of}
+use Rattle.problems.proofs.GivenTerms.{given-more, code-equation, take-given, spine-given}
 use Rattle.unifier.proofs.InjectedTerms.{sides-known}
-use Rattle.unifier.proofs.Rooms.{room-kept}
-use Rattle.unifier.proofs.BuiltCodes.{code-of, other-of}
+use Rattle.problems.proofs.Rooms.{room-kept}
+use Rattle.problems.proofs.BuiltCodes.{code-of, other-of}
 use Rattle.unifier.proofs.ConstructorTurns.{count-parameters, code-goes, code-refused}
 use Rattle.unifier.proofs.constructors.constructor_turn.Goals as goal
 

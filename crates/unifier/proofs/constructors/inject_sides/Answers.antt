@@ -1,6 +1,6 @@
 use Rattle.std.proofs.Common.{length, sym, ap, ◌∙◌}
 use Rattle.core_terms.specs.Meanings.{tree_of, tele_of}
-use Rattle.unifier.proofs.BuiltCodes.{split-rest}
+use Rattle.problems.proofs.BuiltCodes.{split-rest}
 use Rattle.unifier.proofs.ConstructorTurns.{count-arguments, few-arguments}
 use Rattle.unifier.proofs.InjectedTerms.{arguments-known}
 use Rattle.unifier.proofs.constructors.inject_sides.Goals as goal

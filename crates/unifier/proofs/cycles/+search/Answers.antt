@@ -7,14 +7,14 @@ use Rattle.core_terms.proofs.Builders.{ok_is}
 use Rattle.kernel_reduce.specs.Reduction.{answered}
 use Rattle.unification.specs.Built.{built_of}
 use Rattle.unification.specs.Solutions.{variable_in}
-use Rattle.unifier.specs.CodeCycles.{search_within}
-use Rattle.unifier.specs.Conditions.{AreGiven, most_levels}
+use Rattle.problems.specs.CodeCycles.{search_within}
+use Rattle.problems.specs.Conditions.{AreGiven, most_levels}
 use Rattle.unifier.proofs.AmongCodes.{no-terms, no-arguments, argument-refused, argument-found, argument-without, behind-runs, written-at}
 use Rattle.unifier.proofs.BelowCodes.{below-refused, below-without, below-found, few-terms}
-use Rattle.unifier.proofs.BuiltCodes.{code-of, code-there, from_code, of-built, split-first, split-rest}
-use Rattle.unifier.proofs.CycleForms.{search-apart, search-none}
+use Rattle.problems.proofs.BuiltCodes.{code-of, code-there, from_code, of-built, split-first, split-rest}
+use Rattle.problems.proofs.CycleForms.{search-apart, search-none}
 use Rattle.unifier.proofs.WaitingTerms.{is-apart}
-use Rattle.unifier.proofs.GivenTerms.{at-given, drop-given, spine-given}
+use Rattle.problems.proofs.GivenTerms.{at-given, drop-given, spine-given}
 use Rattle.unifier.proofs.cycles.+search.Goals as goal
 use Rattle.unifier.proofs.cycles.+search.Goals.{among-then-at-len-via-then-at-len, among-then-at-len-via-else-at-len+then-at-args}
 

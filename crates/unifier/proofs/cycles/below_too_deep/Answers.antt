@@ -2,8 +2,8 @@ use Rattle.std.proofs.Common.{◌++◌, reverse, sym, ap, ◌∙◌, subst}
 use Rattle.std.proofs.lemmas.Result.{err_from_is_err_and}
 use Rattle.core_terms.specs.Meanings.{tree_of, tele_of}
 use Rattle.core_terms.proofs.Builders.{ok_is}
-use Rattle.unifier.specs.CodeCycles.{direct_in}
-use Rattle.unifier.specs.Conditions.{AreGiven, most_levels}
+use Rattle.problems.specs.CodeCycles.{direct_in}
+use Rattle.problems.specs.Conditions.{AreGiven, most_levels}
 use Rattle.unifier.proofs.CycleCodes.{direct_in-given, nothing-deep, reverse-given}
 use Rattle.unifier.proofs.cycles.below_too_deep.Goals as goal
 

@@ -2,9 +2,9 @@ use Rattle.std.proofs.Common.{◌++◌, reverse, Ok}
 use Rattle.core_terms.specs.Meanings.{tree_of, tele_of}
 use Rattle.core_terms.proofs.Answers.{stands-has}
 use Rattle.unification.specs.Built.{built_of}
-use Rattle.unifier.specs.CodeCycles.{direct_arguments}
-use Rattle.unifier.specs.Conditions.{AreGiven, IsGiven, most_levels}
-use Rattle.unifier.proofs.GivenTerms.{append-given}
+use Rattle.problems.specs.CodeCycles.{direct_arguments}
+use Rattle.problems.specs.Conditions.{AreGiven, IsGiven, most_levels}
+use Rattle.problems.proofs.GivenTerms.{append-given}
 use Rattle.unifier.proofs.CycleCodes.{arguments-given, reverse-given}
 use Rattle.unifier.proofs.cycles.go_below.Goals as goal
 

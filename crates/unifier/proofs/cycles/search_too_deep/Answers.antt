@@ -1,8 +1,8 @@
 use Rattle.std.proofs.Common.{reverse, ◌∙◌, arith}
 use Rattle.std.proofs.lemmas.Result.{err_from_is_err_and}
 use Rattle.core_terms.specs.Meanings.{tele_of}
-use Rattle.unifier.specs.Conditions.{most_levels}
-use Rattle.unifier.proofs.GivenTerms.{last-given}
+use Rattle.problems.specs.Conditions.{most_levels}
+use Rattle.problems.proofs.GivenTerms.{last-given}
 use Rattle.unifier.proofs.CycleCodes.{waiting-refused, waiting-on, waiting-fewer}
 use Rattle.unifier.proofs.cycles.search_too_deep.Goals as goal
 

@@ -1,7 +1,7 @@
 use Rattle.std.proofs.Common.{◌≡◌, ◌+◌, ◌≤◌, reverse}
 use Rattle.core_terms.specs.Meanings.{tele_of}
-use Rattle.unifier.specs.CodeCycles.{search_too_deep}
-use Rattle.unifier.specs.Conditions.{AreGiven, most_levels}
+use Rattle.problems.specs.CodeCycles.{search_too_deep}
+use Rattle.problems.specs.Conditions.{AreGiven, most_levels}
 use Rattle.unifier.proofs.WaitingTerms.{turns_in}
 use Rattle.unifier.proofs.cycles.search_too_deep.Given as goal
 

@@ -2,7 +2,7 @@ use Rattle.std.proofs.Common.{◌≡◌, Ok, length, map, reverse, ◌++◌, ap,
 use Rattle.core_terms.specs.Meanings.{tree_of, tele_of}
 use Rattle.core_terms.proofs.Builders.{ok_is}
 use Rattle.core_sig.specs.Meanings.{argument_of}
-use Rattle.unifier.specs.CodeCycles.{direct_in, is_direct_at}
+use Rattle.problems.specs.CodeCycles.{direct_in, is_direct_at}
 use Rattle.unifier.proofs.CycleCodes.{one-waits, none-waits}
 use Rattle.unifier.proofs.cycles.with_direct.Goals as goal
 

@@ -1,7 +1,7 @@
 use Rattle.std.proofs.Common.{◌≡◌, ◌++◌, map, length, reverse}
 use Rattle.core_terms.specs.Meanings.{tree_of, tele_of}
 use Rattle.core_sig.specs.Meanings.{argument_of}
-use Rattle.unifier.specs.CodeCycles.{direct_among, direct_in}
+use Rattle.problems.specs.CodeCycles.{direct_among, direct_in}
 use Rattle.unifier.proofs.cycles.with_direct.Given as goal
 
 abbrev pub invariant-arguments : goal.invariant-arguments

@@ -6,10 +6,10 @@ use Rattle.core_terms.proofs.Builders.{ok_is}
 use Rattle.kernel_reduce.specs.Reduction.{answered}
 use Rattle.unification.specs.Solving.{deleted_state}
 use Rattle.unification.specs.Turns.{Goes}
-use Rattle.unifier.specs.Meanings.{equation_of, state_of, turn_of}
+use Rattle.problems.specs.Meanings.{equation_of, state_of, turn_of}
 use Rattle.unifier.proofs.DeletionTurns.{deletion-refused, deletion-none, deletion-sticks, deletion-deletes, type-refused, sides-refuse, sides-tidied, goes-refused, goes-on}
-use Rattle.unifier.proofs.GivenTerms.{code-equation, given-more, given-reduces}
-use Rattle.unifier.proofs.Rooms.{room-kept}
+use Rattle.problems.proofs.GivenTerms.{code-equation, given-more, given-reduces}
+use Rattle.problems.proofs.Rooms.{room-kept}
 use Rattle.unifier.proofs.SolutionTrials.{bounded-again}
 use Rattle.unifier.proofs.TidiedTerms.{both-reduce, code-type, tidied-scoped}
 use Rattle.unifier.proofs.deletions.deletion_trial.Goals as goal

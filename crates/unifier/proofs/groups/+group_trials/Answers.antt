@@ -1,4 +1,4 @@
-use Rattle.unifier.specs.Meanings.{state_of, turn_of}
+use Rattle.problems.specs.Meanings.{state_of, turn_of}
 use Rattle.unifier.proofs.FoundGroups.{groups-found}
 use Rattle.unifier.proofs.groups.+group_trials.Goals as goal
 

@@ -2,7 +2,7 @@ use Rattle.std.proofs.Common.{◌≤◌, arith}
 use Rattle.core_terms.proofs.Builders.{ok_is}
 use Rattle.core_terms.proofs.Lists.{value-has}
 use Rattle.theory.specs.Terms.{height}
-use Rattle.unifier.proofs.Lowering.{lowered-more}
+use Rattle.problems.proofs.Lowering.{lowered-more}
 use Rattle.unifier.proofs.groups.all_lowered.Goals as goal
 
 pub lowered-requires : goal.lowered-requires

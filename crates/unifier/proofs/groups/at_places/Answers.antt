@@ -3,8 +3,8 @@ use Rattle.theory.specs.Spines.{spine_of}
 use Rattle.theory.specs.Terms.{height}
 use Rattle.core_terms.specs.Meanings.{tree_of, tele_of}
 use Rattle.std.specs.List.{All}
-use Rattle.unifier.specs.Conditions.{AreLow}
-use Rattle.unifier.proofs.BuiltCodes.{split-first}
+use Rattle.problems.specs.Conditions.{AreLow}
+use Rattle.problems.proofs.BuiltCodes.{split-first}
 use Rattle.unifier.proofs.GroupCodes.{low-all, spine-low, take-low}
 use Rattle.unifier.proofs.groups.at_places.Goals as goal
 

@@ -3,12 +3,12 @@ use Rattle.std.proofs.lemmas.List.{length-map}
 use Rattle.std.proofs.lemmas.Option.{slice_get_within}
 use Rattle.std.proofs.lemmas.Result.{err_from_is_err_and}
 use Rattle.core_terms.specs.Meanings.{tree_of, tele_of}
-use Rattle.unifier.specs.Conditions.{AreGiven}
-use Rattle.unifier.specs.Meanings.{equation_of, state_of}
-use Rattle.unifier.proofs.GivenTerms.{given-more, code-equation}
+use Rattle.problems.specs.Conditions.{AreGiven}
+use Rattle.problems.specs.Meanings.{equation_of, state_of}
+use Rattle.problems.proofs.GivenTerms.{given-more, code-equation}
 use Rattle.unifier.proofs.InjectedTerms.{sides-known}
-use Rattle.unifier.proofs.Rooms.{room-kept}
-use Rattle.unifier.proofs.BuiltCodes.{code-of, other-of}
+use Rattle.problems.proofs.Rooms.{room-kept}
+use Rattle.problems.proofs.BuiltCodes.{code-of, other-of}
 use Rattle.unifier.proofs.ConstructorTurns.{group-goes, group-refused, group-indices, group-parameters, turn-is}
 use Rattle.unifier.proofs.groups.group_turn.Goals as goal
 

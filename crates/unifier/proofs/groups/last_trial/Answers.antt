@@ -2,7 +2,7 @@ use Rattle.std.proofs.Common.{◌+◌, length, sym}
 use Rattle.core_terms.specs.Meanings.{tree_of}
 use Rattle.core_terms.proofs.Builders.{ok_is}
 use Rattle.unifier.proofs.FoundGroups.{group-found}
-use Rattle.unifier.proofs.GivenTerms.{code-equation, given-reduces}
+use Rattle.problems.proofs.GivenTerms.{code-equation, given-reduces}
 use Rattle.unifier.proofs.groups.last_trial.Goals as goal
 
 pub tidy-requires : goal.tidy-requires

@@ -2,8 +2,8 @@ use Rattle.std.proofs.Common.{length, option_map, refl, subst}
 use Rattle.core_terms.specs.Answers.{Runs}
 use Rattle.core_terms.specs.Meanings.{tree_of}
 use Rattle.unifier.specs.CodeGroups.{membership_from}
-use Rattle.unifier.specs.Meanings.{equation_of, state_of, turn_of}
-use Rattle.unifier.proofs.GivenTerms.{given-more, code-equation}
+use Rattle.problems.specs.Meanings.{equation_of, state_of, turn_of}
+use Rattle.problems.proofs.GivenTerms.{given-more, code-equation}
 use Rattle.unifier.proofs.GroupCodes.{equations-hold, wanted-family, wanted-parameters}
 use Rattle.unifier.proofs.groups.on_membership.Goals as goal
 

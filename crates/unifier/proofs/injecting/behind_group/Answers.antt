@@ -1,6 +1,6 @@
 use Rattle.std.proofs.Common.{drop, ap, ◌∙◌}
-use Rattle.unifier.specs.Meanings.{equation_of, equations_of}
-use Rattle.unifier.proofs.LowTerms.{map-drop, slice-from}
+use Rattle.problems.specs.Meanings.{equation_of, equations_of}
+use Rattle.problems.proofs.LowTerms.{map-drop, slice-from}
 use Rattle.unifier.proofs.injecting.behind_group.Goals as goal
 
 pub returns : goal.returns

@@ -5,8 +5,8 @@ use Rattle.core_terms.specs.Meanings.{tele_of}
 use Rattle.core_terms.specs.declared.stop.Stop.{Stop}
 use Rattle.core_terms.proofs.Builders.{ok_is}
 use Rattle.core_sig.specs.Meanings.{family_of}
-use Rattle.unifier.specs.Conditions.{AreOver, most_depth, most_levels}
-use Rattle.unifier.proofs.KnownRecords.{behind-is, count-lifted, lifted-over, over-more}
+use Rattle.problems.specs.Conditions.{AreOver, most_depth, most_levels}
+use Rattle.problems.proofs.KnownRecords.{behind-is, count-lifted, lifted-over, over-more}
 use Rattle.unifier.proofs.injecting.group_proofs.Goals as goal
 
 pub lifted-requires-clause-terms : goal.lifted-requires-clause-terms

@@ -9,11 +9,11 @@ use Rattle.tele_eq.specs.Items.{item_of, items_of}
 use Rattle.unification.specs.Heights.{equations_made}
 use Rattle.unification.specs.Records.{argument_items}
 use Rattle.unification.specs.States.{Equation}
-use Rattle.unifier.specs.CodeInjections.{injected_rest}
-use Rattle.unifier.specs.Conditions.{HasFewVariables, most_depth}
-use Rattle.unifier.specs.Meanings.{equations_of, state_of}
-use Rattle.unifier.proofs.InjectionRooms.{code-items, equations-are, equations-refused, left-over, over-few-variables, parameters-over, right-over, state-few}
-use Rattle.unifier.proofs.KnownRecords.{arguments-few-known, items-made, kinds-known}
+use Rattle.problems.specs.CodeInjections.{injected_rest}
+use Rattle.problems.specs.Conditions.{HasFewVariables, most_depth}
+use Rattle.problems.specs.Meanings.{equations_of, state_of}
+use Rattle.problems.proofs.InjectionRooms.{code-items, equations-are, equations-refused, left-over, over-few-variables, parameters-over, right-over, state-few}
+use Rattle.problems.proofs.KnownRecords.{arguments-few-known, items-made, kinds-known}
 use Rattle.unifier.proofs.injecting.injected.Goals as goal
 
 pub argument_items-requires-clause-ps : goal.argument_items-requires-clause-ps

@@ -5,8 +5,8 @@ use Rattle.core_terms.specs.Meanings.{tree_of, tele_of}
 use Rattle.core_terms.proofs.Builders.{ok_is}
 use Rattle.tele_eq.specs.Items.{items_of}
 use Rattle.unification.specs.States.{Equation, equations_at}
-use Rattle.unifier.specs.Meanings.{equation_of, equations_of, state_of}
-use Rattle.unifier.proofs.InjectionRooms.{group-behind, joined-made, state-few}
+use Rattle.problems.specs.Meanings.{equation_of, equations_of, state_of}
+use Rattle.problems.proofs.InjectionRooms.{group-behind, joined-made, state-few}
 use Rattle.unifier.proofs.SolvedStates.{none-before}
 use Rattle.unifier.proofs.injecting.joined.Goals as goal
 

@@ -7,8 +7,8 @@ use Rattle.core_terms.proofs.Builders.{ok_is}
 use Rattle.tele_eq.specs.Congruences.{congruences}
 use Rattle.tele_eq.specs.Items.{AreSmallTerms, items_of}
 use Rattle.unification.specs.Injecting.{lifted}
-use Rattle.unifier.specs.Conditions.{most_depth, most_levels}
-use Rattle.unifier.proofs.KnownRecords.{lifted-over, over-more, over-small, variables-small}
+use Rattle.problems.specs.Conditions.{most_depth, most_levels}
+use Rattle.problems.proofs.KnownRecords.{lifted-over, over-more, over-small, variables-small}
 use Rattle.unifier.proofs.injecting.lifted_congruences.Goals as goal
 
 pub lifted-requires-clause-terms : goal.lifted-requires-clause-terms

@@ -6,7 +6,7 @@ use Rattle.core_terms.specs.Meanings.{tree_of, tele_of}
 use Rattle.core_terms.specs.declared.stop.Stop.{Stop}
 use Rattle.core_sig.specs.Meanings.{argument_of, constructor_of, family_of}
 use Rattle.tele_eq.specs.Items.{items_of}
-use Rattle.unifier.proofs.KnownRecords.{arguments-small, few-arguments-made, few-members-made, group-made-is, kinds-known, members-small, terms-small}
+use Rattle.problems.proofs.KnownRecords.{arguments-small, few-arguments-made, few-members-made, group-made-is, kinds-known, members-small, terms-small}
 use Rattle.unifier.proofs.injecting.proofs_behind.Goals as goal
 
 pub lifted_congruences-requires-clause-few_arguments : goal.lifted_congruences-requires-clause-few_arguments

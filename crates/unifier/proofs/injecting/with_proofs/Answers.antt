@@ -7,9 +7,9 @@ use Rattle.std.proofs.lemmas.List.{length-map}
 use Rattle.tele_eq.specs.Items.{items_of}
 use Rattle.unification.specs.Heights.{group_made}
 use Rattle.unification.specs.States.{Equation}
-use Rattle.unifier.specs.Conditions.{AreOver, ArePut, most_depth, most_levels}
-use Rattle.unifier.specs.Meanings.{equations_of, state_of}
-use Rattle.unifier.proofs.InjectionRooms.{code-types, joined-is, left-over, parameters-over, proofs-put, right-over, state-few, terms-put}
+use Rattle.problems.specs.Conditions.{AreOver, ArePut, most_depth, most_levels}
+use Rattle.problems.specs.Meanings.{equations_of, state_of}
+use Rattle.problems.proofs.InjectionRooms.{code-types, joined-is, left-over, parameters-over, proofs-put, right-over, state-few, terms-put}
 use Rattle.unifier.proofs.injecting.with_proofs.Goals as goal
 
 pub group_proofs-requires-clause-ps : goal.group_proofs-requires-clause-ps

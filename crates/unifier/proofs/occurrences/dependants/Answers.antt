@@ -1,6 +1,6 @@
 use Rattle.std.proofs.Common.{ℕ, ◌+◌, ◌∷◌, List, [], ◌++◌, Ok, ap, ◌∙◌, subst as transport}
 use Rattle.core_terms.specs.Answers.{Gives}
-use Rattle.unifier.proofs.LowTerms.{low-slice}
+use Rattle.problems.proofs.LowTerms.{low-slice}
 use Rattle.unifier.proofs.Orders.{dependants-sliced}
 use Rattle.unifier.proofs.occurrences.dependants.Goals as goal
 

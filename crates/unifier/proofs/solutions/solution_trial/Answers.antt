@@ -1,7 +1,7 @@
 use Rattle.std.proofs.Common.{length}
 use Rattle.core_terms.specs.Meanings.{tree_of}
 use Rattle.core_terms.proofs.Builders.{ok_is}
-use Rattle.unifier.proofs.GivenTerms.{code-equation, given-more, given-reduces}
+use Rattle.problems.proofs.GivenTerms.{code-equation, given-more, given-reduces}
 use Rattle.unifier.proofs.TidiedTerms.{code-type, tidied-scoped}
 use Rattle.unifier.proofs.solutions.solution_trial.Goals as goal
 

@@ -4,7 +4,7 @@ use Rattle.core_terms.specs.Meanings.{tree_of}
 use Rattle.kernel_reduce.specs.Reduction.{answered}
 use Rattle.unification.specs.Solutions.{left_step, variable_in}
 use Rattle.unification.specs.Turns.{Goes}
-use Rattle.unifier.specs.Meanings.{equation_of, state_of}
+use Rattle.problems.specs.Meanings.{equation_of, state_of}
 use Rattle.unifier.proofs.SolutionTrials.{side-answered, side-refused}
 use Rattle.unifier.proofs.solutions.solve_left.Goals as goal
 

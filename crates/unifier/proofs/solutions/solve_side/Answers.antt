@@ -4,8 +4,8 @@ use Rattle.core_terms.specs.Meanings.{tree_of, tele_of}
 use Rattle.kernel_reduce.specs.Reduction.{answered}
 use Rattle.unification.specs.Occurrences.{dependants}
 use Rattle.unification.specs.Solutions.{solves, state_solved}
-use Rattle.unifier.specs.Meanings.{equation_of, state_of}
-use Rattle.unifier.proofs.Rooms.{room-kept, types-low}
+use Rattle.problems.specs.Meanings.{equation_of, state_of}
+use Rattle.problems.proofs.Rooms.{room-kept, types-low}
 use Rattle.unifier.proofs.SolutionTrials.{answered-first, refused-first, refused-none, runs-behind}
 use Rattle.unifier.proofs.solutions.solve_side.Goals as goal
 

@@ -5,7 +5,7 @@ use Rattle.std.specs.Prelude.{Option, option_map}
 use Rattle.core_terms.specs.Meanings.{tree_of}
 use Rattle.kernel_reduce.specs.Reduction.{answered}
 use Rattle.unification.specs.Turns.{Goes, Turn}
-use Rattle.unifier.specs.Meanings.{equation_of, state_of, turn_of}
+use Rattle.problems.specs.Meanings.{equation_of, state_of, turn_of}
 use Rattle.unifier.proofs.SolutionTrials.{sides-answered, sides-refused}
 use Rattle.unifier.proofs.solutions.solve_sides.Goals as goal
 

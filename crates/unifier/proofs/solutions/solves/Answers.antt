@@ -4,7 +4,7 @@ use Rattle.core_terms.specs.Meanings.{tree_of}
 use Rattle.core_terms.proofs.Builders.{ok_is}
 use Rattle.kernel_reduce.specs.Reduction.{answered, nesting, normal_of}
 use Rattle.unification.specs.Solutions.{if_free}
-use Rattle.unifier.specs.Meanings.{state_of}
+use Rattle.problems.specs.Meanings.{state_of}
 use Rattle.unifier.proofs.SolutionTrials.{refused-none, refused-first, solves-none, solves-same, solves-normal, solves-form}
 use Rattle.unifier.proofs.solutions.solves.Goals as goal
 

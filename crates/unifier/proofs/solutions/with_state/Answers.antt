@@ -2,7 +2,7 @@ use Rattle.std.proofs.Common.{Ok, Some, length, sym, ap, ◌∙◌}
 use Rattle.std.proofs.lemmas.Result.{err_from_is_err_and}
 use Rattle.core_terms.specs.Answers.{and_then}
 use Rattle.core_terms.specs.Meanings.{tree_of}
-use Rattle.unifier.specs.Meanings.{equation_of, state_of}
+use Rattle.problems.specs.Meanings.{equation_of, state_of}
 use Rattle.unifier.proofs.SolutionTrials.{level-of_code, state-solved-is}
 use Rattle.unifier.proofs.solutions.with_state.Goals as goal
 

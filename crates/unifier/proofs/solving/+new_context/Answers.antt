@@ -1,5 +1,5 @@
 use Rattle.std.proofs.Common.{arith}
-use Rattle.unifier.proofs.Rooms.{over-first}
+use Rattle.problems.proofs.Rooms.{over-first}
 use Rattle.unifier.proofs.solving.+new_context.Goals as goal
 
 pub put-requires-clause-over : goal.put-requires-clause-over

@@ -1,8 +1,8 @@
 use Rattle.std.proofs.Common.{◌∙◌, arith}
 use Rattle.core_terms.specs.Meanings.{tree_of}
 use Rattle.core_terms.proofs.Builders.{ok_is}
-use Rattle.unifier.specs.Meanings.{equations_of}
-use Rattle.unifier.proofs.Rooms.{code-few, put-here, put-proof, rest-room}
+use Rattle.problems.specs.Meanings.{equations_of}
+use Rattle.problems.proofs.Rooms.{code-few, put-here, put-proof, rest-room}
 use Rattle.unifier.proofs.solving.behind_solved.Goals as goal
 
 pub behind_first-requires-clause-size : goal.behind_first-requires-clause-size

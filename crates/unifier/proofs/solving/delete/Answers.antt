@@ -4,8 +4,8 @@ use Rattle.theory.specs.Signatures.{reflexivity}
 use Rattle.core_terms.specs.Answers.{Gives}
 use Rattle.core_terms.specs.Meanings.{tree_of}
 use Rattle.core_terms.proofs.Builders.{ok_is}
-use Rattle.unifier.specs.Meanings.{equations_of, state_of}
-use Rattle.unifier.proofs.Rooms.{code-few, rest-room}
+use Rattle.problems.specs.Meanings.{equations_of, state_of}
+use Rattle.problems.proofs.Rooms.{code-few, rest-room}
 use Rattle.unifier.proofs.SolvedStates.{deleted-is, none-before}
 use Rattle.unifier.proofs.solving.delete.Goals as goal
 

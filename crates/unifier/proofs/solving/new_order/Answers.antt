@@ -3,7 +3,7 @@ use Rattle.core_terms.specs.Answers.{IsUnforeseen}
 use Rattle.core_terms.proofs.Answers.{stands-has}
 use Rattle.tele_eq.specs.Items.{each_position}
 use Rattle.unification.specs.Occurrences.{without}
-use Rattle.unifier.specs.Conditions.{AreBelow}
+use Rattle.problems.specs.Conditions.{AreBelow}
 use Rattle.unifier.proofs.Orders.{code-fewer, code-below}
 use Rattle.unifier.proofs.solving.new_order.Goals as goal
 

@@ -6,10 +6,10 @@ use Rattle.core_terms.proofs.Builders.{ok_is}
 use Rattle.unification.specs.Heights.{bounded_state}
 use Rattle.unification.specs.Occurrences.{order_without}
 use Rattle.unification.specs.States as pure
-use Rattle.unifier.specs.Meanings.{state_of}
-use Rattle.unifier.specs.declared.moving.Solution.{Solution}
-use Rattle.unifier.proofs.PutTerms.{free-in_order}
-use Rattle.unifier.proofs.Rooms.{code-few}
+use Rattle.problems.specs.Meanings.{state_of}
+use Rattle.problems.specs.declared.moving.Solution.{Solution}
+use Rattle.problems.proofs.PutTerms.{free-in_order}
+use Rattle.problems.proofs.Rooms.{code-few}
 use Rattle.unifier.proofs.SolvedStates.{solved-is}
 use Rattle.unifier.proofs.solving.solve.Goals as goal
 

@@ -1,7 +1,7 @@
 use Rattle.std.proofs.Common.{Some, ◌-◌, length, drop, subst, arith}
 use Rattle.std.proofs.lemmas.List.{length-take, length-drop}
 use Rattle.core_terms.specs.Answers.{Runs}
-use Rattle.unifier.specs.Meanings.{state_of, turn_of}
+use Rattle.problems.specs.Meanings.{state_of, turn_of}
 use Rattle.unifier.proofs.TrialChains.{first-next}
 use Rattle.unifier.proofs.strategy.all_trials.Goals as goal
 

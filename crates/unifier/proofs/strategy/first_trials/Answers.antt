@@ -7,8 +7,8 @@ use Rattle.unification.specs.Deletions.{deletion_trial}
 use Rattle.unification.specs.Solutions.{solution_trial}
 use Rattle.unification.specs.Sticking.{stuck_trial}
 use Rattle.unification.specs.Turns.{or_else}
-use Rattle.unifier.specs.Meanings.{equation_of, state_of, turn_of}
-use Rattle.unifier.proofs.GivenTerms.{code-equation}
+use Rattle.problems.specs.Meanings.{equation_of, state_of, turn_of}
+use Rattle.problems.proofs.GivenTerms.{code-equation}
 use Rattle.unifier.proofs.KeptTurns.{equation-more}
 use Rattle.unifier.proofs.TrialChains.{or-refused, or-found, or-next, third-next}
 use Rattle.unifier.proofs.strategy.first_trials.Goals as goal

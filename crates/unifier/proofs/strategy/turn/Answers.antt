@@ -1,4 +1,4 @@
-use Rattle.unifier.specs.Meanings.{state_of}
+use Rattle.problems.specs.Meanings.{state_of}
 use Rattle.unifier.proofs.KeptTurns.{turn-kept}
 use Rattle.unifier.proofs.strategy.turn.Goals as goal
 

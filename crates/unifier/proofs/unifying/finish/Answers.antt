@@ -3,7 +3,7 @@ use Rattle.std.proofs.lemmas.List.{map-append}
 use Rattle.core_terms.specs.Meanings.{tree_of, tele_of}
 use Rattle.core_terms.specs.TreeMeanings.{step_of, steps_of}
 use Rattle.unification.specs.Outcomes.{Absurd}
-use Rattle.unifier.specs.Meanings.{state_of, turn_of}
+use Rattle.problems.specs.Meanings.{state_of, turn_of}
 use Rattle.unifier.proofs.RunEnds.{fails-end, sticks-end, done-end, goes-end}
 use Rattle.unifier.proofs.unifying.finish.Goals as goal
 

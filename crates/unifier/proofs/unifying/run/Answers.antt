@@ -5,8 +5,8 @@ use Rattle.core_terms.specs.TreeMeanings.{step_of, steps_of}
 use Rattle.unification.specs.Outcomes.{behind_steps}
 use Rattle.unification.specs.Runs.{end_of, run_of}
 use Rattle.unification.specs.Strategy as strategy
-use Rattle.unifier.specs.Meanings.{outcome_of, state_of, turn_of}
-use Rattle.unifier.specs.declared.turn.Turn.TheVariants.{Goes}
+use Rattle.problems.specs.Meanings.{outcome_of, state_of, turn_of}
+use Rattle.problems.specs.declared.turn.Turn.TheVariants.{Goes}
 use Rattle.unifier.proofs.BelowCodes.{gives-runs}
 use Rattle.unifier.proofs.RunCodes.{behind_all, end-there, run-ends, run-goes, run-refused, run-starts, turns-fall}
 use Rattle.unifier.proofs.RunEnds.{code-ends}

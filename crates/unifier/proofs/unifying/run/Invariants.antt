@@ -1,8 +1,8 @@
 use Rattle.std.proofs.Common.{◌≡◌, ◌+◌, ◌≤◌}
 use Rattle.core_terms.specs.TreeMeanings.{steps_of}
 use Rattle.unification.specs.Runs.{run_of}
-use Rattle.unifier.specs.Conditions.{IsKept}
-use Rattle.unifier.specs.Meanings.{state_of}
+use Rattle.problems.specs.Conditions.{IsKept}
+use Rattle.problems.specs.Meanings.{state_of}
 use Rattle.unifier.proofs.RunCodes.{behind_all, turns_from}
 use Rattle.unifier.proofs.unifying.run.Given as goal
 

@@ -1,4 +1,4 @@
-use Rattle.unifier.specs.Meanings.{problem_of, state_of}
+use Rattle.problems.specs.Meanings.{problem_of, state_of}
 use Rattle.unifier.proofs.StartCodes.{problem-few_items, problem-few_left, problem-few_right, start-kept}
 use Rattle.unifier.proofs.unifying.run_of_problem.Goals as goal
 

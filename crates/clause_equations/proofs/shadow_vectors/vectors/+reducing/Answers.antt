@@ -6,8 +6,8 @@ use Rattle.core_terms.specs.PatternMeanings.{pats_of}
 use Rattle.theory.specs.Telescopes.{applied}
 use Rattle.theory.specs.Terms.{Con}
 use Rattle.kernel_reduce.specs.WellScoped.{CanReduce}
-use Rattle.unifier.proofs.BuiltCodes.{from_code}
-use Rattle.clause_walks.proofs.BuiltPairs.{is-as}
+use Rattle.problems.proofs.BuiltCodes.{from_code}
+use Rattle.problems.proofs.BuiltArguments.{is-as}
 use Rattle.clause_equations.proofs.shadow_vectors.ReducedTerms.{arguments-go, arguments-reducible, arguments-refused, gives-spends}
 use Rattle.clause_equations.proofs.shadow_vectors.vectors.+reducing.Goals as goal
 

@@ -1,5 +1,0 @@
-use Rattle.std.proofs.Common.{length}
-use Rattle.function_entries.proofs.numbering.+with_names_at.Given as goal
-
-abbrev pub decreases-with_names_at : goal.decreases-with_names_at
-decreases-with_names_at l = length l.places.now

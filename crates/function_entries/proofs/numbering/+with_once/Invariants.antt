@@ -1,5 +1,0 @@
-use Rattle.std.proofs.Common.{length}
-use Rattle.function_entries.proofs.numbering.+with_once.Given as goal
-
-abbrev pub decreases-with_once : goal.decreases-with_once
-decreases-with_once l = length l.places.now

@@ -1,0 +1,16 @@
+pub mod BuiltArguments
+pub mod BuiltCodes
+pub mod BuiltForms
+pub mod CycleForms
+pub mod FamilyMembers
+pub mod GivenTerms
+pub mod InjectionRooms
+pub mod KnownRecords
+pub mod LowTerms
+pub mod Lowering
+pub mod ProblemCodes
+pub mod ProblemParts
+pub mod PutTerms
+pub mod RecordItems
+pub mod RecordSizes
+pub mod Rooms

@@ -1,0 +1,10 @@
+pub mod CodeBuilt
+pub mod CodeCycles
+pub mod CodeInjections
+pub mod CodeLowering
+pub mod CodeMoves
+pub mod Conditions
+pub mod Meanings
+pub mod MemberConditions
+pub mod MemberMeanings
+pub mod ProblemsMade

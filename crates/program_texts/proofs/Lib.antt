@@ -1,0 +1,16 @@
+pub mod AcceptedWords
+pub mod Asking
+pub mod CommandWalks
+pub mod EnteredNames
+pub mod FileHeads
+pub mod FuelNumbers
+pub mod FunctionWords
+pub mod GrammarInLine
+pub mod QuietWalks
+pub mod ReadInLine
+pub mod RefusalsInLine
+pub mod ReportsInLine
+pub mod SessionInLine
+pub mod StopReasons
+pub mod TokensInLine
+pub mod WrittenTexts

@@ -1,5 +1,0 @@
-use Rattle.std.proofs.Common.{length}
-use Rattle.unifier.proofs.moving.+term_at.Given as goal
-
-abbrev pub decreases-term_at : goal.decreases-term_at
-decreases-term_at l = length l.terms.now
