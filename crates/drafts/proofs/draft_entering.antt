@@ -1,6 +1,7 @@
 pub mod AfterMentions
 pub mod Answering
 pub mod Entered
+pub mod FamilyNames
 pub mod FoundAmong
 pub mod ListedIn
 pub mod Longer

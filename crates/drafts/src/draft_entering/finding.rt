@@ -9,7 +9,7 @@ ghost use Rattle.theory.specs.Signatures.{FamilyOf};
 ghost use Rattle.theory.specs.Terms.{top};
 
 use crate::draft_entering::Generated;
-use crate::draft_entering::spelling::{is_constructors, is_left, is_marked, is_spelled};
+use crate::draft_entering::spelling::{after, is_constructors, is_left, is_marked, is_spelled};
 use core_sig::{Entry, Family, Signature};
 use core_terms::{Stop, TOP, number_of};
 
@@ -139,6 +139,17 @@ fn found_of_family(n: u32, f: &Family, count: u32, name: &[u8]) -> Option<Genera
     found_from(n, f, count, 0, name)
 }
 
+/// The generated entry of a family, by its name. Names that do not begin with that of the family are passed over.
+fn found_by_family(n: u32, f: &Family, count: u32, name: &[u8]) -> Option<Generated>
+    requires count { count ≡ length f.now.cons }
+    ensures { result ≡ found_in name.now (pure.of_entry n (FamilyOf (family_of f.now))) }
+{
+    match after(name, f.name.as_slice()) {
+        Some(_) => found_of_family(n, f, count, name),
+        None => None,
+    }
+}
+
 /// The generated entry of an entry that is a family, by its name.
 fn found_of_entry(n: u32, entry: &Entry, name: &[u8]) -> Result<Option<Generated>, Stop>
     ensures { Gives (λ found. found) result (Ok (found_in name.now (pure.of_entry n (entry_of entry.now)))) }
@@ -146,7 +157,7 @@ fn found_of_entry(n: u32, entry: &Entry, name: &[u8]) -> Result<Option<Generated
     match entry {
         Entry::Family(f) => {
             let count = number_of(f.cons.as_slice().len())?;
-            Ok(found_of_family(n, f, count, name))
+            Ok(found_by_family(n, f, count, name))
         }
         _ => Ok(None),
     }

@@ -18,7 +18,7 @@ fn is_level(text: &[u8], i: u8) -> bool
 }
 
 /// The rest of the name after the part, where the name begins with it.
-fn after<'a>(name: &'a [u8], part: &[u8]) -> Option<&'a [u8]>
+pub(crate) fn after<'a>(name: &'a [u8], part: &[u8]) -> Option<&'a [u8]>
     ensures { (rest : List ℕ) → bytes_eq (part.now ++ rest) name.now ≡ goes_on (option_copied result) rest }
 {
     match (name, part) {
