@@ -4,6 +4,7 @@ pub mod ConstructorTypes
 pub mod DraftTerms
 pub mod EliminatorsByLevels
 pub mod EntryInstances
+pub mod Imports
 pub mod Instances
 pub mod Keeping
 pub mod KindLists
@@ -23,3 +24,5 @@ pub mod ScopedDrafts
 pub mod SettledFamilies
 pub mod ShapeScopes
 pub mod ShapesOfCode
+pub mod StandingEntries
+pub mod StoredEntries

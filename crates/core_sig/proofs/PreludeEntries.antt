@@ -1,9 +1,9 @@
 -- The prelude, entry by entry.
-use Rattle.std.proofs.Common.{◌≡◌, ℕ, ◌+◌, ◌*◌, ◌<◌, ◌≤◌, List, [], ◌∷◌, ◌++◌, map, take, length, Some, slice_get, All, refl, ap, ap₂, sym, ◌∙◌, subst, Bool, add-one}
+use Rattle.std.proofs.Common.{◌≡◌, ℕ, zero, suc, ◌+◌, ◌*◌, ◌<◌, ◌≤◌, List, [], ◌∷◌, ◌++◌, map, take, length, Some, slice_get, All, refl, ap, ap₂, sym, ◌∙◌, subst, Bool, add-one, arith}
 use Rattle.std.proofs.lemmas.List.{length-take-le}
 use Rattle.std.proofs.lemmas.Option.{slice_get_within, get_or_from_slice_get}
 use Rattle.std.proofs.Math.Seq.{take-suc}
-use Rattle.theory.specs.Terms.{Term, top}
+use Rattle.theory.specs.Terms.{Term, height, top}
 use Rattle.theory.specs.Terms.Term.{Var, App, Fam}
 use Rattle.theory.specs.Substitutions.{ren, inst}
 use Rattle.theory.specs.Spines.{head_of}
@@ -11,7 +11,7 @@ use Rattle.theory.specs.Telescopes.{Telescope, applied, weaken_by, variables}
 use Rattle.theory.specs.Families as pure
 use Rattle.theory.specs.Families.{family_head}
 use Rattle.theory.specs.Signatures.{Signature, Entry, FamilyOf, IsEntryAt}
-use Rattle.theory.specs.Prelude.{prelude, unit_family, pair_family}
+use Rattle.theory.specs.Prelude.{prelude, at_levels, empty_family, equality_family, unit_family, pair_family}
 use Rattle.theory.proofs.PreludeWellFormed.{unit_at, pair_at}
 use Rattle.theory.specs.WellFormed.{pushed, first_entries}
 use Rattle.core_sig.specs.Kinds.{IsRecursiveType, HasKind, HaveKinds, HasKinds}
@@ -23,7 +23,9 @@ use Rattle.core_sig.specs.declared.family.Arg.{Arg}
 use Rattle.core_sig.specs.declared.family.Constructor.{Constructor}
 use Rattle.core_sig.specs.declared.family.Family.{Family}
 use Rattle.std.proofs.lemmas.List.Elements.{All-nil}
-use Rattle.theory.proofs.Lists.{only}
+use Rattle.std.specs.List.{range_with_len}
+use Rattle.theory.proofs.Lists.{only, some_is}
+use Rattle.core_sig.specs.EntryIds.{AreLowBehind, type_behind}
 use Rattle.core_sig.proofs.ConstructorTypes.{ren-applied}
 
 head_of-applied : (head : Term) (ts : List Term) → head_of (applied head ts) ≡ head_of head
@@ -78,3 +80,39 @@ unit_number k n i lt at = subst (λ m. IsEntryAt (prelude k) m (FamilyOf (unit_f
 
 pub pair_number : (k : Bool) (n i : ℕ) → i < top → 2 * top + 1 + i ≡ n → IsEntryAt (prelude k) n (FamilyOf (pair_family i))
 pair_number k n i lt at = subst (λ m. IsEntryAt (prelude k) m (FamilyOf (pair_family i))) at (pair_at top i lt)
+
+-- P holds of each element of a list
+abbrev Each : {X : Type 0} → (X → Type 0) → List X → Type 0
+Each {X} P xs = (n : ℕ) (x : X) → slice_get xs n ≡ Some x → P x
+
+each-append : {X : Type 0} (P : X → Type 0) (xs ys : List X) → Each P xs → Each P ys → Each P (xs ++ ys)
+each-append P [] ys first second n y at = second n y at
+each-append P (x ∷ xs) ys first second zero y at = first zero y at
+each-append P (x ∷ xs) ys first second (suc n) y at = each-append P xs ys (λ m z there. first (suc m) z there) second n y at
+
+each-family : (P : Entry → Type 0) (family : ℕ → pure.Family) → ((i : ℕ) → P (FamilyOf (family i))) → (is : List ℕ) → Each P (map (λ i. FamilyOf (family i)) is)
+each-family P family all [] n e at = absurd cc
+each-family P family all (i ∷ is) zero e at = subst P (some_is at) (all i)
+each-family P family all (i ∷ is) (suc n) e at = each-family P family all is n e at
+
+abbrev IsLowEntry : ℕ → Entry → Type 0
+IsLowEntry m (FamilyOf f) = AreLowBehind m f
+IsLowEntry m _ = Unit {0}
+
+-- the types of the prelude's constructors are low behind the parameters
+pub prelude-low : (k : Bool) (n m : ℕ) (f : pure.Family) → IsEntryAt (prelude k) n (FamilyOf f) → AreLowBehind m f
+prelude-low k n m f at =
+    each-append (IsLowEntry m) (FamilyOf empty_family ∷ []) (at_levels equality_family ++ (at_levels unit_family ++ at_levels pair_family)) none
+    (each-append (IsLowEntry m) (at_levels equality_family) (at_levels unit_family ++ at_levels pair_family)
+    (each-family (IsLowEntry m) equality_family (λ i. only (IsLow (equality_family i)) _ (omega arith)) (range_with_len 0 top))
+    (each-append (IsLowEntry m) (at_levels unit_family) (at_levels pair_family)
+    (each-family (IsLowEntry m) unit_family (λ i. only (IsLow (unit_family i)) _ (omega arith)) (range_with_len 0 top))
+    (each-family (IsLowEntry m) pair_family (λ i. only (IsLow (pair_family i)) _ (omega arith)) (range_with_len 0 top))))
+    n (FamilyOf f) at
+  where
+    IsLow : pure.Family → pure.Constructor → Type 0
+    IsLow g c = height (type_behind m g c) ≤ 2000
+
+    none : Each (IsLowEntry m) (FamilyOf empty_family ∷ [])
+    none zero e there = subst (IsLowEntry m) (some_is there) (All-nil (IsLow empty_family))
+    none (suc i) e there = absurd cc

@@ -91,8 +91,10 @@ eliminator_type n f m =
     products f.parameters (Pi (motive_type n f m p)
     (methods_over n p (length f.indices) p 0 (p + 1) f.constructors (goal_type n f p (p + 1 + length f.constructors))))
 
+-- the type of a constructor behind its p parameters, where its arguments have the types: (types) -> D p targets
+abbrev pub type_behind : (n p : ℕ) → Telescope → List Term → Term
+type_behind n p types targets = products types (applied (applied (Fam n) (run (p + length types) 0 p)) targets)
+
 -- the type of a constructor, whose arguments have the types: (p) -> (types) -> D p targets
 abbrev pub constructor_type : (n : ℕ) → Telescope → Telescope → List Term → Term
-constructor_type n parameters types targets =
-    let p = length parameters in
-    products parameters (products types (applied (applied (Fam n) (run (p + length types) 0 p)) targets))
+constructor_type n parameters types targets = products parameters (type_behind n (length parameters) types targets)

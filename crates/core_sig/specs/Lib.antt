@@ -2,6 +2,7 @@ pub mod ByLevels
 pub mod Codes
 pub mod DraftScopes
 pub mod Drafts
+pub mod EntryIds
 pub mod EntryTerms
 pub mod FamilyShapes
 pub mod Instances
@@ -12,8 +13,10 @@ pub mod Meanings
 pub mod Names
 pub mod Offenders
 pub mod Raw
+pub mod Refusals
 pub mod ScopeTests
 pub mod ScopedDrafts
 pub mod SettledParts
 pub mod Settling
 pub mod Shapes
+pub mod StoredEntries

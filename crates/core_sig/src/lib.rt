@@ -2,12 +2,15 @@
 //! bring along.
 #![tactic(auto)]
 
+mod axiom_k;
 mod by_levels;
 mod drafting;
 mod eliminator;
 mod entry;
+mod entry_ids;
 mod family;
 mod hypotheses;
+mod importing;
 mod instance_place;
 mod kinds;
 mod name_index;
@@ -20,14 +23,18 @@ mod scoping;
 mod settling;
 mod shapes;
 mod signature;
+mod storing;
 mod types;
 
+pub use axiom_k::axiom_k_type;
 pub use by_levels::{arguments_over, family_at, goal_type, motive_type};
 pub use drafting::{drafted, generated_name};
 pub use eliminator::elim_type;
 pub use entry::{Draft, Entry, Found};
+pub use entry_ids::{ConstructorId, EntryId, EntryIds, Stored};
 pub use family::{Arg, ArgKind, Constructor, Family};
 pub use hypotheses::{Motive, applied_to_targets, conclusion, hypotheses_over, hypothesis_type};
+pub use importing::import_where_low;
 pub use kinds::kind_of;
 pub use name_set::NameSet;
 pub use positivity::{mentions, strictly_positive};

@@ -4,15 +4,18 @@ ghost use Rattle.std.specs.Option.{is_some, option_copied};
 ghost use Rattle.theory.specs.Signatures.{names_of};
 ghost use Rattle.theory.specs.WellFormed.{pushed, first_entries};
 ghost use Rattle.core_terms.specs.declared.stop.Stop.TheVariants.{Memory};
+ghost use Rattle.core_sig.specs.EntryIds.{CanStand, Stands};
 ghost use Rattle.core_sig.specs.Instances.{is_axiom_k, is_eliminator};
 ghost use Rattle.core_sig.specs.Kinds.{HasEntryKinds};
 ghost use Rattle.core_sig.specs.Meanings.{entry_of};
 ghost use Rattle.core_sig.specs.Names.{find, named};
+ghost use Rattle.term_pool.specs.Pools.{pool_held};
 
 use crate::instance_place::{Instance, place_of};
 use crate::name_index::NameIndex;
-use crate::naming::{add_names, name_count};
-use crate::{Entry, Found};
+use crate::naming::name_count;
+use crate::storing::{Terms, store_entry};
+use crate::{Entry, Found, Stored};
 use core_terms::{Stop, number_of};
 use std::alloc::Global;
 use std::marker::Model;
@@ -23,6 +26,8 @@ pub struct Signature {
     entries: Vec<Entry>,
     k: bool,
     names: NameIndex,
+    terms: Terms,
+    alloc: Global,
 }
 
 impl Model for Signature {
@@ -52,6 +57,8 @@ impl Signature {
             entries: Vec::new(alloc),
             k,
             names: NameIndex::new(alloc),
+            terms: Terms::new(alloc),
+            alloc,
         }
     }
 
@@ -75,6 +82,16 @@ impl Signature {
         ensures kinds { IfSome result (λ e. HasEntryKinds at e.now) }
     {
         self.entries.as_slice().get(at as usize)
+    }
+
+    /// The terms of the entries in a pool. Takes no memory.
+    pub fn stored(&self) -> Stored<'_>
+        ensures { Stands (pool_held result.pool.now) self.now.entries result.ids.now }
+    {
+        Stored {
+            pool: &self.terms.pool,
+            ids: &self.terms.ids,
+        }
     }
 
     /// The entry or the constructor with the name.
@@ -102,11 +119,13 @@ impl Signature {
         place_of(self.entries.as_slice(), Instance::AxiomK(i, m))
     }
 
-    /// Adds the entry at the end and answers its number. Memory is also answered where a number would not fit.
+    /// Adds the entry at the end and answers its number. Memory is also answered where a number would not fit, and where the pool has
+    /// no room for its terms.
     pub fn push(&mut self, entry: Entry) -> Result<u32, Stop>
         requires unknown { All (λ name. find self.old name ≡ None) (names_of (entry_of entry)) }
         requires distinct { AllPairs (λ x y. x ≢ y) (names_of (entry_of entry)) }
         requires kinds { HasEntryKinds (length self.old.entries) entry }
+        requires can { CanStand self.old.entries (entry_of entry) }
         ensures number { IfOk result (λ n. n ≡ length self.old.entries) }
         ensures ok { OnOk result (self.new ≡ pushed self.old (entry_of entry)) }
         ensures err { OnErr result (self.new ≡ self.old) }
@@ -114,7 +133,14 @@ impl Signature {
     {
         let number = number_of(self.entries.len() + 1)? - 1;
         self.entries.reserve(1)?;
-        add_names(&mut self.names, number, &entry)?;
+        store_entry(
+            self.alloc,
+            &mut self.names,
+            &mut self.terms,
+            self.entries.as_slice(),
+            number,
+            &entry,
+        )?;
         self.entries.push(entry).unwrap();
         Ok(number)
     }
@@ -128,6 +154,7 @@ impl Signature {
             let names = names_before(self.entries.as_slice(), self.names.len(), len);
             self.names.truncate(names);
             self.entries.truncate(len);
+            self.terms.keep_first(len);
         }
     }
 }

@@ -4,6 +4,7 @@ ghost use Rattle.core_terms.specs.Meanings.{tree_of, tele_of};
 ghost use Rattle.theory.specs.Families as pure;
 ghost use Rattle.core_terms.specs.Bounds.{most_height};
 ghost use Rattle.core_sig.specs.ByLevels as levels;
+ghost use Rattle.core_sig.specs.EntryIds.{type_behind};
 ghost use Rattle.core_sig.specs.Kinds.{HasKinds, HaveKinds};
 ghost use Rattle.core_sig.specs.Meanings.{constructor_of, family_of};
 
@@ -45,7 +46,8 @@ pub fn con_type(alloc: Global, fam: u32, f: &Family, con: u32) -> Result<Term, S
     type_of(alloc, fam, f, &f.cons.as_slice()[con as usize])
 }
 
-fn type_of(alloc: Global, fam: u32, f: &Family, con: &Constructor) -> Result<Term, Stop>
+/// The type of a constructor of the family with number `fam`.
+pub(crate) fn type_of(alloc: Global, fam: u32, f: &Family, con: &Constructor) -> Result<Term, Stop>
     requires { HaveKinds fam (family_of f.now) 0 con.now.args }
     ensures { Gives tree_of result (bounded (pure.constructor_type fam (family_of f.now) (constructor_of (length f.now.params) con.now))) }
 {
@@ -53,6 +55,24 @@ fn type_of(alloc: Global, fam: u32, f: &Family, con: &Constructor) -> Result<Ter
         return Err(Stop::Deep);
     }
     let whole = constructor_type(alloc, fam, f, con)?;
+    checked(whole)
+}
+
+/// The type of a constructor of the family with number `fam` behind the parameters: products over its arguments into the family at
+/// the targets.
+pub(crate) fn type_behind(
+    alloc: Global,
+    fam: u32,
+    f: &Family,
+    con: &Constructor,
+) -> Result<Term, Stop>
+    requires { HaveKinds fam (family_of f.now) 0 con.now.args }
+    ensures { Gives tree_of result (bounded (type_behind fam (family_of f.now) (constructor_of (length f.now.params) con.now))) }
+{
+    if !are_few(f, con) {
+        return Err(Stop::Deep);
+    }
+    let whole = over_arguments(alloc, fam, f, con)?;
     checked(whole)
 }
 
@@ -70,14 +90,26 @@ fn constructor_type(alloc: Global, fam: u32, f: &Family, con: &Constructor) -> R
     requires args { length con.now.args ≤ most_height }
     ensures { Gives tree_of result (Ok (levels.constructor_type fam (tele_of f.now.params) (map (λ a. tree_of a.ty) con.now.args) (tele_of con.now.targets))) }
 {
-    let params = f.params.as_slice();
-    let count = params.len() as u32;
+    let end = over_arguments(alloc, fam, f, con)?;
+    products(
+        alloc,
+        copy_tele(alloc, f.params.as_slice())?.into_vec(),
+        end,
+    )
+}
+
+/// The type of a constructor behind the parameters. Its height is not tested.
+fn over_arguments(alloc: Global, fam: u32, f: &Family, con: &Constructor) -> Result<Term, Stop>
+    requires params { length f.now.params ≤ most_height }
+    requires args { length con.now.args ≤ most_height }
+    ensures { Gives tree_of result (Ok (levels.type_behind fam (length (tele_of f.now.params)) (map (λ a. tree_of a.ty) con.now.args) (tele_of con.now.targets))) }
+{
+    let count = f.params.as_slice().len() as u32;
     let args = con.args.as_slice();
     let depth = count + args.len() as u32;
     let head = applied_to_run(alloc, Term::Fam(fam), depth, 0, count)?;
     let targets = copy_tele(alloc, con.targets.as_slice())?.into_vec();
     let end = applied(alloc, head, targets)?;
     let types = types_of(alloc, args)?;
-    let end = products(alloc, types, end)?;
-    products(alloc, copy_tele(alloc, params)?.into_vec(), end)
+    products(alloc, types, end)
 }

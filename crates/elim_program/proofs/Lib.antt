@@ -7,6 +7,7 @@ pub mod Following
 mod FunctionInLine
 mod FunctionTexts
 pub mod Lines
+pub mod NewSessions
 pub mod OneOutput
 pub mod OutputInLine
 pub mod Reading

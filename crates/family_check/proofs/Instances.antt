@@ -1,9 +1,8 @@
 -- Answers for instances whose levels fit, or do not, or whose type is too high.
-use Rattle.std.proofs.Common.{◌≡◌, ◌≢◌, ℕ, ◌<◌, Bool, true, false, cond, nat_le, Some, Result, Ok, Err, IsErrAnd, [], refl, sym, ap, ◌∙◌, subst as transport, arith}
+use Rattle.std.proofs.Common.{◌≡◌, ◌≢◌, ℕ, ◌<◌, Bool, true, false, cond, nat_le, Result, Ok, Err, IsErrAnd, [], refl, sym, ap, ◌∙◌, subst as transport, arith}
 use Rattle.std.proofs.lemmas.Bool.Decides.{nat_tests}
 use Rattle.theory.specs.Terms.{Term, height}
-use Rattle.theory.specs.Families.{Family}
-use Rattle.theory.specs.Signatures.{Entry, FamilyOf, Signature, IsEntryAt}
+use Rattle.theory.specs.Signatures.{Entry, Signature}
 use Rattle.core_terms.specs.Answers.{bounded, and_next}
 use Rattle.core_terms.specs.declared.stop.Stop as stop
 use Rattle.core_terms.specs.declared.stop.Stop.TheVariants.{Memory, Deep}
@@ -55,7 +54,3 @@ made-is t u h = by_case (nat_le (height u) 2000) h
 
 pub given-is : (t u : Term) → same_answer (Ok t) (Ok u) → t ≡ u
 given-is t u e = cc
-
--- one number has one family
-pub same-family : (S : Signature) (n : ℕ) (f g : Family) → IsEntryAt S n (FamilyOf f) → IsEntryAt S n (FamilyOf g) → f ≡ g
-same-family S n f g at other = let e : Some (FamilyOf f) ≡ Some (FamilyOf g) = sym at ∙ other in cc

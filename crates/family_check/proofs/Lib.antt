@@ -9,6 +9,7 @@ pub mod Extending
 pub mod Instances
 pub mod KindShapes
 pub mod LevelLoops
+pub mod LowEntries
 pub mod Lowness
 pub mod NameTests
 pub mod NewNames

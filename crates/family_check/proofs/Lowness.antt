@@ -1,4 +1,5 @@
--- Heights and sorts: a type that is granted a sort is no higher than 2,000, and a higher one is Deep before a unit is needed.
+-- Heights and sorts: a term that is granted a type, or a type a sort, is no higher than 2,000, and a higher type is Deep before a unit
+-- is needed.
 use Rattle.std.proofs.Common.{◌≡◌, ℕ, ◌<◌, ◌≤◌, zero, suc, true, false, Result, Ok, Err, IfOk, refl, ap, ◌∙◌, arith}
 use Rattle.std.proofs.lemmas.Bool.Decides.{nat_tests}
 use Rattle.theory.specs.Terms.{Term, height}
@@ -14,7 +15,7 @@ use Rattle.core_terms.proofs.Answers.{Answers, and_next-has, low-is}
 use Rattle.kernel_reduce.proofs.Answers.{if_low-has}
 use Rattle.kernel_check.specs.Checking.{infer_form, infer_of, infer_sort_of, check_of, if_typed, sort_of}
 use Rattle.kernel_check.specs.Laws.{IfYes}
-use Rattle.family_check.specs.Asking.{sort_in}
+use Rattle.family_check.specs.Asking.{sort_in, type_in}
 use Rattle.family_check.specs.Outcomes.{Site, Stopped, ended, granted}
 use Rattle.family_check.proofs.Outcomes.{granted-has}
 
@@ -45,6 +46,18 @@ unfolding sort_in
 sort-low S site G t left =
     granted-has (λ sort. height t ≤ 2000) site (infer_sort_of S nesting G t left)
     (if_yes (height t ≤ 2000) (infer_sort_of S nesting G t left).0 (infer_sort-low S nesting G t left))
+
+check-low : (S : Signature) (room : ℕ) (G : Context) (t wanted : Term) (left : ℕ) → Answers (λ v. height t ≤ 2000) (check_of S room G t wanted left)
+check-low S zero G t wanted left = tt
+check-low S (suc room) G t wanted left =
+    and_next-has (λ v. height t ≤ 2000) (λ v. height t ≤ 2000) (infer_of S room G t left) _ (infer-low S room G t left) (λ verdict rest low.
+    anyway (height t ≤ 2000) _ low)
+
+pub type-low : (S : Signature) (site : Site) (G : Context) (t wanted : Term) (left : ℕ) → Answers (λ type. height t ≤ 2000) (type_in S site G t wanted left)
+unfolding type_in
+type-low S site G t wanted left =
+    granted-has (λ type. height t ≤ 2000) site (check_of S nesting G t wanted left)
+    (if_yes (height t ≤ 2000) (check_of S nesting G t wanted left).0 (check-low S nesting G t wanted left))
 
 infer-deep : (S : Signature) (room under : ℕ) (G : Context) (t : Term) (left : ℕ) → room ≡ suc under → 2000 < height t → infer_of S room G t left ≡ answered (Err Deep) left
 infer-deep S room under G t left is high =

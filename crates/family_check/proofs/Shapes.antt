@@ -12,6 +12,7 @@ use Rattle.theory.specs.Families.{Argument, Family, family_head, recursive_type,
 use Rattle.theory.specs.Families.Argument.{Plain, Recursive}
 use Rattle.theory.specs.WellFormed.{HasTargets}
 use Rattle.theory.proofs.Instances.{inst-var, ren-ren, ren-same}
+use Rattle.core_sig.specs.EntryIds.{type_behind}
 use Rattle.core_sig.specs.Kinds.{IsRecursiveType}
 use Rattle.core_sig.proofs.Arguments.{ups-same_var, map-inst-var, weaken-weaken_by}
 use Rattle.core_sig.proofs.EntryInstances.{ren-id}
@@ -192,12 +193,16 @@ telescope-of n f name types levels targets counted =
     ap (λ h. argument_types Var h (arguments n f 0 types levels)) (sym (weaken_by-none (family_head n f)))
     ∙ arguments-typed n f 0 types levels counted
 
--- and the constructor has the type, after the parameters
+-- and the constructor has the type, behind the parameters
+pub behind-typed : (n : ℕ) (f : Family) (name : List ℕ) (t : Term) (levels : List ℕ) (targets : List Term) → length levels ≡ length (domains_of t)
+    → IsEnd n f (length (domains_of t)) (end_of t) targets
+    → type_behind n f (record { name = name; arguments = arguments n f 0 (domains_of t) levels; targets = targets }) ≡ t
+behind-typed n f name t levels targets counted end =
+    ap₂ products (telescope-of n f name (domains_of t) levels targets counted)
+    (ap (λ k. applied (weaken_by k (family_head n f)) targets) (arguments-counted n f 0 (domains_of t) levels counted) ∙ sym end.form)
+    ∙ products-of_parts t
+
 pub constructor-typed : (n : ℕ) (f : Family) (name : List ℕ) (t : Term) (levels : List ℕ) (targets : List Term) → length levels ≡ length (domains_of t)
     → IsEnd n f (length (domains_of t)) (end_of t) targets
     → constructor_type n f (record { name = name; arguments = arguments n f 0 (domains_of t) levels; targets = targets }) ≡ products f.parameters t
-constructor-typed n f name t levels targets counted end =
-    ap (products f.parameters)
-    (ap₂ products (telescope-of n f name (domains_of t) levels targets counted)
-    (ap (λ k. applied (weaken_by k (family_head n f)) targets) (arguments-counted n f 0 (domains_of t) levels counted) ∙ sym end.form)
-    ∙ products-of_parts t)
+constructor-typed n f name t levels targets counted end = ap (products f.parameters) (behind-typed n f name t levels targets counted end)

@@ -9,9 +9,8 @@ ghost use Rattle.family_check.specs.Scopes.{HasPrelude, IsSettled, IsScopedStop}
 
 use crate::FamilyStop;
 use crate::entering::{enter, too_high};
-use core_sig::{Entry, Signature};
+use core_sig::{Entry, Signature, axiom_k_type};
 use core_terms::{TOP, Units};
-use kernel_check::axiom_k_type;
 use std::alloc::Global;
 
 /// Adds the axiom K of `Eq.i` into `Type m`, unless it is there, and answers its number.

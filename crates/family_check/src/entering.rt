@@ -2,6 +2,7 @@ ghost use Rattle.std.specs.Prelude.{◌≡◌, ◌≤◌, ◌+◌, ℕ, true, []
 ghost use Rattle.theory.specs.Signatures.{names_of};
 ghost use Rattle.core_terms.specs.Meanings.{tree_of};
 ghost use Rattle.core_terms.specs.Verdicts as verdicts;
+ghost use Rattle.core_sig.specs.EntryIds.{CanStand};
 ghost use Rattle.core_sig.specs.Kinds.{HasEntryKinds};
 ghost use Rattle.core_sig.specs.Meanings.{entry_of};
 ghost use Rattle.kernel_reduce.specs.WellScoped.{AreWellScoped};
@@ -26,6 +27,7 @@ pub(crate) fn enter(
     requires asked { AreWellScoped sig.old [] (tree_of ty.now ∷ []) }
     requires nameless { names_of (entry_of entry) ≡ [] }
     requires kinds { (n : ℕ) → HasEntryKinds n entry }
+    requires can { CanStand sig.old.entries (entry_of entry) }
     ensures answer { Yields (spec.entered_at sig.new) result units.new.left (spec.enter_instance sig.old (entry_of entry) true (tree_of ty.now) units.old.left) }
     ensures err { OnErr result (sig.new ≡ sig.old) }
     ensures sum { units.new.left + units.new.spent ≡ units.old.left + units.old.spent }

@@ -1,12 +1,9 @@
--- The context of a telescope in code.
-use Rattle.std.proofs.Common.{◌≡◌, ℕ, ◌-◌, ◌<◌, ◌≤◌, Some, None, List, [], ◌∷◌, ◌++◌, length, reverse, slice_get, refl, sym, ap, ◌∙◌, append_assoc, append-nil, arith}
-use Rattle.std.proofs.lemmas.List.{reverse-reverse, length-reverse, reverse-append}
+-- The context of a telescope: its types from the last one on.
+use Rattle.std.proofs.Common.{◌≡◌, ℕ, ◌-◌, ◌<◌, ◌≤◌, Some, None, option_map, List, [], ◌∷◌, ◌++◌, length, map, reverse, slice_get, get_or, inl, inr, refl, sym, ap, ◌∙◌, append_assoc, append-nil, arith}
+use Rattle.std.proofs.lemmas.List.{reverse-reverse, length-reverse, reverse-append, length-map, get_or-reverse}
+use Rattle.std.proofs.lemmas.Option.{none-some, slice_get-get_or, slice_get-map, slice_get_past, slice_get_within, slice_get_cases, get_or_from_slice_get}
+use Rattle.theory.specs.Terms.{Term}
 use Rattle.theory.specs.Telescopes.{Context, Telescope, context_behind}
-use Rattle.std.proofs.Common.{get_or}
-use Rattle.std.proofs.lemmas.List.{length-map, get_or-map, get_or-reverse}
-use Rattle.std.proofs.lemmas.Option.{slice_get-get_or, slice_get_past}
-use Rattle.core_terms.specs.Meanings.{tree_of, tele_of}
-use Rattle.core_terms.specs.declared.term.Term.{Term}
 
 pub context-behind : (G : Context) (tele : Telescope) → context_behind G tele ≡ reverse tele ++ G
 context-behind G [] = refl
@@ -23,25 +20,44 @@ context_back G = context-reverse (reverse G) ∙ reverse-reverse G
 pub reverse_context : (tele : Telescope) → reverse (context_behind [] tele) ≡ tele
 reverse_context tele = ap reverse (context-reverse tele) ∙ reverse-reverse tele
 
-pub declared_at : (terms : List Term) (n : ℕ) (x : Term) → n < length terms → x ≡ get_or terms (length terms - 1 - n) x
-    → Some (tree_of x) ≡ slice_get (context_behind [] (tele_of terms)) n
-declared_at terms n x h e =
-    let tele = tele_of terms in
-    let count : length tele ≡ length terms = length-map terms tree_of in
-    let inside : n < length (reverse tele) = omega (arith, length-reverse tele) in
-    let low : length terms - 1 - n < length terms = omega arith in
-    let at : get_or (reverse tele) n (tree_of x) ≡ tree_of x =
-    get_or-reverse tele n (tree_of x) (omega arith)
-    ∙ (ap (λ k. get_or tele (k - 1 - n) (tree_of x)) count
-    ∙ (get_or-map tree_of terms (length terms - 1 - n) x (tree_of x) low ∙ ap tree_of (sym e))) in
-    sym (ap (λ G. slice_get G n) (context-reverse tele) ∙ (slice_get-get_or (reverse tele) n (tree_of x) inside ∙ ap Some at))
+pub context-length : (tele : Telescope) → length (context_behind [] tele) ≡ length tele
+context-length tele = ap length (context-reverse tele) ∙ length-reverse tele
 
-pub declared_past : (terms : List Term) (n : ℕ) → length terms ≤ n → slice_get (context_behind [] (tele_of terms)) n ≡ None
-declared_past terms n h =
-    let tele = tele_of terms in
-    let count : length tele ≡ length terms = length-map terms tree_of in
-    ap (λ G. slice_get G n) (context-reverse tele) ∙ slice_get_past (reverse tele) n (omega (arith, length-reverse tele))
+-- elements by their numbers from the end of a list
+module _ {X : Type 0} (xs : List X) (n : ℕ) where
+  pub from_the_end-at : (x : X) → n < length xs → x ≡ get_or xs (length xs - 1 - n) x → Some x ≡ slice_get (reverse xs) n
+  from_the_end-at x low e =
+      let inside : n < length (reverse xs) = omega (arith, length-reverse xs) in
+      sym (slice_get-get_or (reverse xs) n x inside ∙ ap Some (get_or-reverse xs n x low ∙ sym e))
 
-pub context_length : (terms : List Term) → length terms ≡ length (context_behind [] (tele_of terms))
-context_length terms =
-    sym (length-map terms tree_of) ∙ (sym (length-reverse (tele_of terms)) ∙ ap length (sym (context-reverse (tele_of terms))))
+  pub from_the_end-past : length xs ≤ n → None ≡ slice_get (reverse xs) n
+  from_the_end-past past = sym (slice_get_past (reverse xs) n (omega (arith, length-reverse xs)))
+
+  pub within-reverse : (x : X) → slice_get (reverse xs) n ≡ Some x → n < length xs
+  within-reverse x at = let inside = slice_get_within (reverse xs) n x at in omega (arith, length-reverse xs)
+
+  pub at-reverse : (x : X) → slice_get (reverse xs) n ≡ Some x → slice_get xs (length xs - 1 - n) ≡ Some x
+  at-reverse x at =
+      let low = within-reverse x at in
+      let place : length xs - 1 - n < length xs = omega arith in
+      slice_get-get_or xs (length xs - 1 - n) x place
+      ∙ ap Some (sym (get_or-reverse xs n x low) ∙ get_or_from_slice_get (reverse xs) n x x at)
+
+  pub past-reverse : slice_get (reverse xs) n ≡ None → length xs ≤ n
+  past-reverse none = elim (slice_get_cases (reverse xs) n).1 [
+    | inl h ↦ absurd (none-some h.0 (sym none ∙ h.2))
+    | inr h ↦ (let past = h.0 in omega (arith, length-reverse xs))
+  ]
+
+-- the types that the context of mapped elements gives to variables
+module _ {X : Type 0} (f : X → Term) (xs : List X) (n : ℕ) where
+  pub declared-at : (x : X) → n < length xs → slice_get xs (length xs - 1 - n) ≡ Some x → slice_get (context_behind [] (map f xs)) n ≡ Some (f x)
+  declared-at x low at =
+      let count : length (map f xs) ≡ length xs = length-map xs f in
+      let there : slice_get (map f xs) (length xs - 1 - n) ≡ Some (f x) = slice_get-map f xs (length xs - 1 - n) ∙ ap (option_map f) at in
+      ap (λ G. slice_get G n) (context-reverse (map f xs))
+      ∙ sym (from_the_end-at (map f xs) n (f x) (omega (arith, count)) (sym (get_or_from_slice_get (map f xs) (length (map f xs) - 1 - n) (f x) (f x) (ap (λ k. slice_get (map f xs) (k - 1 - n)) count ∙ there))))
+
+  pub declared-past : length xs ≤ n → slice_get (context_behind [] (map f xs)) n ≡ None
+  declared-past past =
+      ap (λ G. slice_get G n) (context-reverse (map f xs)) ∙ sym (from_the_end-past (map f xs) n (omega (arith, length-map xs f)))

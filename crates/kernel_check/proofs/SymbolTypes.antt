@@ -25,14 +25,14 @@ any-at {X} p (x ∷ xs) h = by_case (p x) refl (any-at p xs)
         let rest = behind (grind arith) in
         (suc rest.0, rest.1, rest.2, rest.3)
 
-eliminator-is : (n m : ℕ) (e : Entry) → is_eliminator n m e ≡ true → e ≡ EliminatorAt n m
+pub eliminator-is : (n m : ℕ) (e : Entry) → is_eliminator n m e ≡ true → e ≡ EliminatorAt n m
 eliminator-is n m (EliminatorAt f l) h =
     let parts = both-true (f == n) (l == m) h in
     ap₂ EliminatorAt ((Decides-eqb f n).0 parts.0) ((Decides-eqb l m).0 parts.1)
 eliminator-is n m (FamilyOf f) h = absurd (grind arith)
 eliminator-is n m _ h = absurd (grind arith)
 
-axiom_k-is : (i m : ℕ) (e : Entry) → is_axiom_k i m e ≡ true → e ≡ AxiomKAt i m
+pub axiom_k-is : (i m : ℕ) (e : Entry) → is_axiom_k i m e ≡ true → e ≡ AxiomKAt i m
 axiom_k-is i m (AxiomKAt j l) h =
     let parts = both-true (j == i) (l == m) h in
     ap₂ AxiomKAt ((Decides-eqb j i).0 parts.0) ((Decides-eqb l m).0 parts.1)

@@ -1,5 +1,11 @@
+pub mod Applications
+pub mod Asked
 pub mod Checking
+pub mod Decided
 pub mod Kernels
 pub mod Laws
+pub mod Rooms
 pub mod Scopes
 pub mod Symbols
+pub mod TypeIds
+pub mod Verdicts

@@ -1,346 +1,481 @@
-ghost use Rattle.std.specs.Prelude.{◌≡◌, ◌≤◌, ◌+◌};
+ghost use Rattle.std.specs.Prelude.{◌+◌, ◌∷◌, IsTrue};
 ghost use Rattle.theory.specs.Terms as tree;
-ghost use Rattle.core_terms.specs.Answers.{Gives, Runs};
-ghost use Rattle.core_terms.specs.Bounds.{most_height};
-ghost use Rattle.core_terms.specs.Meanings.{tree_of, verdict_of};
+ghost use Rattle.core_sig.specs.EntryIds.{Stands};
 ghost use Rattle.kernel_check.specs.Checking as checking;
-ghost use Rattle.kernel_check.specs.Scopes.{AreLow, CanCheck, scope_of};
+ghost use Rattle.kernel_check.specs.Decided as decided;
+ghost use Rattle.kernel_check.specs.Decided.{Decides};
+ghost use Rattle.kernel_check.specs.Applications.{IsAppliedPart};
+ghost use Rattle.kernel_check.specs.Asked.{IsArgumentPart, IsCheckedAgainst, IsCheckedPart, IsProductPart};
+ghost use Rattle.kernel_check.specs.Scopes.{CanCheckIn, scope_in};
 
 use crate::leaf::leaf_type;
 use crate::scope::Scope;
-use crate::verdicts::{behind, deny, typed};
-use core_sig::Signature;
-use core_terms::{MAX_HEIGHT, Reason, Stop, TOP, Term, Units, Verdict, copy, subst};
-use kernel_reduce::{subtype_within, whnf};
+use crate::types::{compare, function_type, greater_sort, instance_type, is_product, sort_of};
+use crate::verdict::{ReasonIn, VerdictIn, behind_in, deny};
+use core_sig::{EntryIds, Signature};
+use core_terms::{Stop, Units};
 use std::alloc::Global;
+use store_reduce::whnf_in;
+use term_pool::{Node, TermStore, subst_in};
 
 /// A type of the term, where `room` calls may be open.
 #[cycle(check)]
-pub(crate) fn infer_in(
+pub(crate) fn infer_at<S: TermStore>(
     alloc: Global,
+    store: &mut S,
     sig: &Signature,
-    scope: &Scope,
-    t: &Term,
+    ids: &EntryIds<S::Id>,
+    scope: &Scope<S::Id>,
+    t: S::Id,
     room: u32,
     units: &mut Units,
-) -> Result<Verdict, Stop>
-    requires { CanCheck sig.now room scope.now (tree_of t.now) }
-    ensures meant { Runs verdict_of result units.new.left (checking.infer_of sig.now room (scope_of scope.now) (tree_of t.now) units.old.left) }
-    ensures total { units.new.left + units.new.spent ≡ units.old.left + units.old.spent }
-    ensures spends { units.new.left ≤ units.old.left }
+) -> Result<VerdictIn<S::Id>, Stop>
+    requires ids { Stands (S.held store.old) sig.now.entries ids.now }
+    requires t_live { IsTrue ((S.held store.old).live t) }
+    requires can { CanCheckIn (S.held store.old) sig.now room scope.now ((S.held store.old).tree t) }
+    ensures { Decides (IsCheckedPart sig.now (scope_in (S.held store.old).tree scope.now) ((S.held store.old).tree t)) (S.held store.old) (S.held store.new) units.old units.new result (checking.infer_of sig.now room (scope_in (S.held store.old).tree scope.now) ((S.held store.old).tree t) units.old.left) }
 {
-    if room == 0 || t.height() > MAX_HEIGHT {
+    if room == 0 {
         return Err(Stop::Deep);
     }
+    let _low = store.height(&t);
     units.spend()?;
-    infer_form(alloc, sig, scope, t, room - 1, units)
+    infer_form(alloc, store, sig, ids, scope, t, room - 1, units)
 }
 
 /// A type of the term by its form.
 #[cycle(check)]
-fn infer_form(
+fn infer_form<S: TermStore>(
     alloc: Global,
+    store: &mut S,
     sig: &Signature,
-    scope: &Scope,
-    t: &Term,
+    ids: &EntryIds<S::Id>,
+    scope: &Scope<S::Id>,
+    t: S::Id,
     room: u32,
     units: &mut Units,
-) -> Result<Verdict, Stop>
-    requires can { CanCheck sig.now (room + 1) scope.now (tree_of t.now) }
-    requires low { tree.height (tree_of t.now) ≤ most_height }
-    ensures meant { Runs verdict_of result units.new.left (checking.infer_form sig.now (checking.infer_of sig.now room) (checking.infer_sort_of sig.now room) (checking.check_of sig.now room) (scope_of scope.now) (tree_of t.now) units.old.left) }
-    ensures total { units.new.left + units.new.spent ≡ units.old.left + units.old.spent }
-    ensures spends { units.new.left ≤ units.old.left }
+) -> Result<VerdictIn<S::Id>, Stop>
+    requires ids { Stands (S.held store.old) sig.now.entries ids.now }
+    requires t_live { IsTrue ((S.held store.old).live t) }
+    requires can { CanCheckIn (S.held store.old) sig.now (room + 1) scope.now ((S.held store.old).tree t) }
+    ensures { Decides (IsCheckedPart sig.now (scope_in (S.held store.old).tree scope.now) ((S.held store.old).tree t)) (S.held store.old) (S.held store.new) units.old units.new result (checking.infer_form sig.now (checking.infer_of sig.now room) (checking.infer_sort_of sig.now room) (checking.check_of sig.now room) (scope_in (S.held store.old).tree scope.now) ((S.held store.old).tree t) units.old.left) }
 {
-    match t {
-        Term::Pi(a, b) => infer_product(alloc, sig, scope, a, b, room, units),
-        Term::Lam(a, b) => infer_function(alloc, sig, scope, a, b, room, units),
-        Term::App(f, u) => infer_application(alloc, sig, scope, f, u, room, units),
-        Term::Let(a, v, b) => infer_local(alloc, sig, scope, a, v, b, room, units),
-        _ => leaf_type(alloc, sig, scope, t),
+    match store.look(&t) {
+        Node::Pi(a, b) => infer_product(alloc, store, sig, ids, scope, a, b, room, units),
+        Node::Lam(a, b) => infer_function(alloc, store, sig, ids, scope, a, b, room, units),
+        Node::App(f, u) => infer_application(alloc, store, sig, ids, scope, f, u, room, units),
+        Node::Let(a, v, b) => infer_local(alloc, store, sig, ids, scope, a, v, b, room, units),
+        leaf => leaf_type(alloc, store, sig, ids, scope, leaf),
     }
 }
 
 #[cycle(check)]
-fn infer_product(
+fn infer_product<S: TermStore>(
     alloc: Global,
+    store: &mut S,
     sig: &Signature,
-    scope: &Scope,
-    a: &Term,
-    b: &Term,
+    ids: &EntryIds<S::Id>,
+    scope: &Scope<S::Id>,
+    a: S::Id,
+    b: S::Id,
     room: u32,
     units: &mut Units,
-) -> Result<Verdict, Stop>
-    requires can { CanCheck sig.now (room + 1) scope.now (tree.Pi (tree_of a.now) (tree_of b.now)) }
-    requires low { tree.height (tree_of a.now) ≤ most_height }
-    ensures meant { Runs verdict_of result units.new.left (checking.infer_product (checking.infer_sort_of sig.now room) (scope_of scope.now) (tree_of a.now) (tree_of b.now) units.old.left) }
-    ensures total { units.new.left + units.new.spent ≡ units.old.left + units.old.spent }
-    ensures spends { units.new.left ≤ units.old.left }
+) -> Result<VerdictIn<S::Id>, Stop>
+    requires ids { Stands (S.held store.old) sig.now.entries ids.now }
+    requires a_live { IsTrue ((S.held store.old).live a) }
+    requires b_live { IsTrue ((S.held store.old).live b) }
+    requires can { CanCheckIn (S.held store.old) sig.now (room + 1) scope.now (tree.Pi ((S.held store.old).tree a) ((S.held store.old).tree b)) }
+    ensures { Decides (IsCheckedPart sig.now (scope_in (S.held store.old).tree scope.now) (tree.Pi ((S.held store.old).tree a) ((S.held store.old).tree b))) (S.held store.old) (S.held store.new) units.old units.new result (checking.infer_product (checking.infer_sort_of sig.now room) (scope_in (S.held store.old).tree scope.now) ((S.held store.old).tree a) ((S.held store.old).tree b) units.old.left) }
 {
-    let i = match behind(0, infer_sort_in(alloc, sig, scope, a, room, units)?)? {
-        Verdict::Yes(i) => i,
-        Verdict::No(denial) => return Ok(Verdict::No(denial)),
-    };
-    let under = Scope::Under(a, scope);
-    match behind(1, infer_sort_in(alloc, sig, &under, b, room, units)?)? {
-        Verdict::Yes(j) => typed(greater_sort(i, j)),
-        Verdict::No(denial) => Ok(Verdict::No(denial)),
+    match behind_in(
+        0,
+        infer_sort_at(alloc, store, sig, ids, scope, a, room, units),
+    )? {
+        VerdictIn::Yes(i) => infer_codomain(alloc, store, sig, ids, scope, i, a, b, room, units),
+        VerdictIn::No(denial) => Ok(VerdictIn::No(denial)),
     }
 }
 
-/// The greater one of two sorts.
-fn greater_sort(a: Term, b: Term) -> Term
-    ensures { tree_of result ≡ checking.greater_sort (tree_of a) (tree_of b) }
+/// The sort of a product whose domain `a` has the sort `i`.
+#[cycle(check)]
+fn infer_codomain<S: TermStore>(
+    alloc: Global,
+    store: &mut S,
+    sig: &Signature,
+    ids: &EntryIds<S::Id>,
+    scope: &Scope<S::Id>,
+    i: S::Id,
+    a: S::Id,
+    b: S::Id,
+    room: u32,
+    units: &mut Units,
+) -> Result<VerdictIn<S::Id>, Stop>
+    requires ids { Stands (S.held store.old) sig.now.entries ids.now }
+    requires i_live { IsTrue ((S.held store.old).live i) }
+    requires a_live { IsTrue ((S.held store.old).live a) }
+    requires b_live { IsTrue ((S.held store.old).live b) }
+    requires can { CanCheckIn (S.held store.old) sig.now (room + 1) scope.now (tree.Pi ((S.held store.old).tree a) ((S.held store.old).tree b)) }
+    ensures { Decides (IsCheckedPart sig.now (scope_in (S.held store.old).tree scope.now) (tree.Pi ((S.held store.old).tree a) ((S.held store.old).tree b))) (S.held store.old) (S.held store.new) units.old units.new result (decided.infer_codomain (checking.infer_sort_of sig.now room) (scope_in (S.held store.old).tree scope.now) ((S.held store.old).tree a) ((S.held store.old).tree b) ((S.held store.old).tree i) units.old.left) }
 {
-    match (&a, &b) {
-        (Term::Sort(i), Term::Sort(j)) => Term::Sort((*i).max(*j)),
-        _ => a,
+    let under = Scope::Under(a, &*scope);
+    match behind_in(
+        1,
+        infer_sort_at(alloc, store, sig, ids, &under, b, room, units),
+    )? {
+        VerdictIn::Yes(j) => Ok(VerdictIn::Yes(greater_sort(store, i, j))),
+        VerdictIn::No(denial) => Ok(VerdictIn::No(denial)),
     }
 }
 
 #[cycle(check)]
-fn infer_function(
+fn infer_function<S: TermStore>(
     alloc: Global,
+    store: &mut S,
     sig: &Signature,
-    scope: &Scope,
-    a: &Term,
-    b: &Term,
+    ids: &EntryIds<S::Id>,
+    scope: &Scope<S::Id>,
+    a: S::Id,
+    b: S::Id,
     room: u32,
     units: &mut Units,
-) -> Result<Verdict, Stop>
-    requires can { CanCheck sig.now (room + 1) scope.now (tree.Lam (tree_of a.now) (tree_of b.now)) }
-    requires low { tree.height (tree_of a.now) ≤ most_height }
-    ensures meant { Runs verdict_of result units.new.left (checking.infer_function (checking.infer_of sig.now room) (checking.infer_sort_of sig.now room) (scope_of scope.now) (tree_of a.now) (tree_of b.now) units.old.left) }
-    ensures total { units.new.left + units.new.spent ≡ units.old.left + units.old.spent }
-    ensures spends { units.new.left ≤ units.old.left }
+) -> Result<VerdictIn<S::Id>, Stop>
+    requires ids { Stands (S.held store.old) sig.now.entries ids.now }
+    requires a_live { IsTrue ((S.held store.old).live a) }
+    requires b_live { IsTrue ((S.held store.old).live b) }
+    requires can { CanCheckIn (S.held store.old) sig.now (room + 1) scope.now (tree.Lam ((S.held store.old).tree a) ((S.held store.old).tree b)) }
+    ensures { Decides (IsCheckedPart sig.now (scope_in (S.held store.old).tree scope.now) (tree.Lam ((S.held store.old).tree a) ((S.held store.old).tree b))) (S.held store.old) (S.held store.new) units.old units.new result (checking.infer_function (checking.infer_of sig.now room) (checking.infer_sort_of sig.now room) (scope_in (S.held store.old).tree scope.now) ((S.held store.old).tree a) ((S.held store.old).tree b) units.old.left) }
 {
-    match behind(0, infer_sort_in(alloc, sig, scope, a, room, units)?)? {
-        Verdict::Yes(_) => {}
-        Verdict::No(denial) => return Ok(Verdict::No(denial)),
-    }
-    let under = Scope::Under(a, scope);
-    match behind(1, infer_in(alloc, sig, &under, b, room, units)?)? {
-        Verdict::Yes(ty) => function_type(alloc, scope, a, ty),
-        Verdict::No(denial) => Ok(Verdict::No(denial)),
+    match behind_in(
+        0,
+        infer_sort_at(alloc, store, sig, ids, scope, a, room, units),
+    )? {
+        VerdictIn::Yes(_) => infer_body(alloc, store, sig, ids, scope, a, b, room, units),
+        VerdictIn::No(denial) => Ok(VerdictIn::No(denial)),
     }
 }
 
-/// The type of a function with the domain `a`, whose body has the type `ty`.
-fn function_type(alloc: Global, scope: &Scope, a: &Term, ty: Term) -> Result<Verdict, Stop>
-    requires bound { AreLow scope.now }
-    ensures { Gives verdict_of result (checking.function_type (scope_of scope.now) (tree_of a.now) (tree_of ty)) }
+/// The type of a function whose domain `a` has a sort.
+#[cycle(check)]
+fn infer_body<S: TermStore>(
+    alloc: Global,
+    store: &mut S,
+    sig: &Signature,
+    ids: &EntryIds<S::Id>,
+    scope: &Scope<S::Id>,
+    a: S::Id,
+    b: S::Id,
+    room: u32,
+    units: &mut Units,
+) -> Result<VerdictIn<S::Id>, Stop>
+    requires ids { Stands (S.held store.old) sig.now.entries ids.now }
+    requires a_live { IsTrue ((S.held store.old).live a) }
+    requires b_live { IsTrue ((S.held store.old).live b) }
+    requires can { CanCheckIn (S.held store.old) sig.now (room + 1) scope.now (tree.Lam ((S.held store.old).tree a) ((S.held store.old).tree b)) }
+    ensures { Decides (IsCheckedPart sig.now (scope_in (S.held store.old).tree scope.now) (tree.Lam ((S.held store.old).tree a) ((S.held store.old).tree b))) (S.held store.old) (S.held store.new) units.old units.new result (checking.if_typed (checking.behind 1 (checking.infer_of sig.now room (((S.held store.old).tree a) ∷ (scope_in (S.held store.old).tree scope.now)) ((S.held store.old).tree b) units.old.left)) (decided.product_type (scope_in (S.held store.old).tree scope.now) ((S.held store.old).tree a))) }
 {
-    if matches!(ty, Term::Sort(TOP)) {
-        return deny(alloc, scope, Reason::LevelTooHigh);
+    let under = Scope::Under(a, &*scope);
+    match behind_in(1, infer_at(alloc, store, sig, ids, &under, b, room, units))? {
+        VerdictIn::Yes(ty) => function_type(alloc, store, scope, a, ty),
+        VerdictIn::No(denial) => Ok(VerdictIn::No(denial)),
     }
-    typed(Term::Pi(Box::new(alloc, copy(alloc, a)?)?, Box::new(alloc, ty)?))
 }
 
 #[cycle(check)]
-fn infer_application(
+fn infer_application<S: TermStore>(
     alloc: Global,
+    store: &mut S,
     sig: &Signature,
-    scope: &Scope,
-    f: &Term,
-    u: &Term,
+    ids: &EntryIds<S::Id>,
+    scope: &Scope<S::Id>,
+    f: S::Id,
+    u: S::Id,
     room: u32,
     units: &mut Units,
-) -> Result<Verdict, Stop>
-    requires can { CanCheck sig.now (room + 1) scope.now (tree.App (tree_of f.now) (tree_of u.now)) }
-    ensures meant { Runs verdict_of result units.new.left (checking.infer_application sig.now (checking.infer_of sig.now room) (checking.infer_sort_of sig.now room) (checking.check_of sig.now room) (scope_of scope.now) (tree_of f.now) (tree_of u.now) units.old.left) }
-    ensures total { units.new.left + units.new.spent ≡ units.old.left + units.old.spent }
-    ensures spends { units.new.left ≤ units.old.left }
+) -> Result<VerdictIn<S::Id>, Stop>
+    requires ids { Stands (S.held store.old) sig.now.entries ids.now }
+    requires f_live { IsTrue ((S.held store.old).live f) }
+    requires u_live { IsTrue ((S.held store.old).live u) }
+    requires can { CanCheckIn (S.held store.old) sig.now (room + 1) scope.now (tree.App ((S.held store.old).tree f) ((S.held store.old).tree u)) }
+    ensures { Decides (IsCheckedPart sig.now (scope_in (S.held store.old).tree scope.now) (tree.App ((S.held store.old).tree f) ((S.held store.old).tree u))) (S.held store.old) (S.held store.new) units.old units.new result (checking.infer_application sig.now (checking.infer_of sig.now room) (checking.infer_sort_of sig.now room) (checking.check_of sig.now room) (scope_in (S.held store.old).tree scope.now) ((S.held store.old).tree f) ((S.held store.old).tree u) units.old.left) }
 {
-    let ty = match behind(0, infer_in(alloc, sig, scope, f, room, units)?)? {
-        Verdict::Yes(ty) => ty,
-        Verdict::No(denial) => return Ok(Verdict::No(denial)),
-    };
-    match product_of(alloc, sig, scope, ty, room, units)? {
-        Verdict::Yes(product) => apply_product(alloc, sig, scope, u, product, room, units),
-        Verdict::No(denial) => Ok(Verdict::No(denial)),
+    match behind_in(0, infer_at(alloc, store, sig, ids, scope, f, room, units))? {
+        VerdictIn::Yes(ty) => apply_typed(alloc, store, sig, ids, scope, u, ty, room, units),
+        VerdictIn::No(denial) => Ok(VerdictIn::No(denial)),
+    }
+}
+
+/// The type of a function with the type `ty` at the argument `u`.
+#[cycle(check)]
+fn apply_typed<S: TermStore>(
+    alloc: Global,
+    store: &mut S,
+    sig: &Signature,
+    ids: &EntryIds<S::Id>,
+    scope: &Scope<S::Id>,
+    u: S::Id,
+    ty: S::Id,
+    room: u32,
+    units: &mut Units,
+) -> Result<VerdictIn<S::Id>, Stop>
+    requires ids { Stands (S.held store.old) sig.now.entries ids.now }
+    requires u_live { IsTrue ((S.held store.old).live u) }
+    requires ty_live { IsTrue ((S.held store.old).live ty) }
+    requires argument { CanCheckIn (S.held store.old) sig.now (room + 1) scope.now ((S.held store.old).tree u) }
+    requires function { CanCheckIn (S.held store.old) sig.now (room + 1) scope.now ((S.held store.old).tree ty) }
+    ensures { Decides (IsAppliedPart sig.now (scope_in (S.held store.old).tree scope.now) ((S.held store.old).tree u) ((S.held store.old).tree ty)) (S.held store.old) (S.held store.new) units.old units.new result (decided.apply_typed sig.now (checking.infer_sort_of sig.now room) (checking.check_of sig.now room) (scope_in (S.held store.old).tree scope.now) ((S.held store.old).tree u) ((S.held store.old).tree ty) units.old.left) }
+{
+    match product_of(alloc, store, sig, ids, scope, ty, room, units)? {
+        VerdictIn::Yes(product) => {
+            apply_product(alloc, store, sig, ids, scope, u, product, room, units)
+        }
+        VerdictIn::No(denial) => Ok(VerdictIn::No(denial)),
     }
 }
 
 /// The product that is a function's type, syntactically or reduced at its head.
 #[cycle(check)]
-fn product_of(
+fn product_of<S: TermStore>(
     alloc: Global,
+    store: &mut S,
     sig: &Signature,
-    scope: &Scope,
-    ty: Term,
+    ids: &EntryIds<S::Id>,
+    scope: &Scope<S::Id>,
+    ty: S::Id,
     room: u32,
     units: &mut Units,
-) -> Result<Verdict, Stop>
-    requires { CanCheck sig.now (room + 1) scope.now (tree_of ty) }
-    ensures meant { Runs verdict_of result units.new.left (checking.product_of sig.now (checking.infer_sort_of sig.now room) (scope_of scope.now) (tree_of ty) units.old.left) }
-    ensures total { units.new.left + units.new.spent ≡ units.old.left + units.old.spent }
-    ensures spends { units.new.left ≤ units.old.left }
+) -> Result<VerdictIn<S::Id>, Stop>
+    requires ids { Stands (S.held store.old) sig.now.entries ids.now }
+    requires ty_live { IsTrue ((S.held store.old).live ty) }
+    requires can { CanCheckIn (S.held store.old) sig.now (room + 1) scope.now ((S.held store.old).tree ty) }
+    ensures { Decides (IsProductPart sig.now (scope_in (S.held store.old).tree scope.now) ((S.held store.old).tree ty)) (S.held store.old) (S.held store.new) units.old units.new result (checking.product_of sig.now (checking.infer_sort_of sig.now room) (scope_in (S.held store.old).tree scope.now) ((S.held store.old).tree ty) units.old.left) }
 {
-    if matches!(ty, Term::Pi(_, _)) {
-        return Ok(Verdict::Yes(ty));
+    if is_product(store, ty) {
+        return Ok(VerdictIn::Yes(ty));
     }
-    let reduced = whnf(alloc, sig, &ty, true, units)?;
-    reduced_product(alloc, sig, scope, reduced, room, units)
+    let reduced = whnf_in(alloc, store, sig, ids, ty, true, units)?;
+    reduced_product(alloc, store, sig, ids, scope, reduced, room, units)
 }
 
 /// The reduced type of a function: it must be a product, and must have a sort.
 #[cycle(check)]
-fn reduced_product(
+fn reduced_product<S: TermStore>(
     alloc: Global,
+    store: &mut S,
     sig: &Signature,
-    scope: &Scope,
-    reduced: Term,
+    ids: &EntryIds<S::Id>,
+    scope: &Scope<S::Id>,
+    reduced: S::Id,
     room: u32,
     units: &mut Units,
-) -> Result<Verdict, Stop>
-    requires { CanCheck sig.now room scope.now (tree_of reduced) }
-    ensures meant { Runs verdict_of result units.new.left (checking.reduced_product (checking.infer_sort_of sig.now room) (scope_of scope.now) (tree_of reduced) units.old.left) }
-    ensures total { units.new.left + units.new.spent ≡ units.old.left + units.old.spent }
-    ensures spends { units.new.left ≤ units.old.left }
+) -> Result<VerdictIn<S::Id>, Stop>
+    requires ids { Stands (S.held store.old) sig.now.entries ids.now }
+    requires reduced_live { IsTrue ((S.held store.old).live reduced) }
+    requires can { CanCheckIn (S.held store.old) sig.now room scope.now ((S.held store.old).tree reduced) }
+    ensures { Decides (IsCheckedPart sig.now (scope_in (S.held store.old).tree scope.now) ((S.held store.old).tree reduced)) (S.held store.old) (S.held store.new) units.old units.new result (checking.reduced_product (checking.infer_sort_of sig.now room) (scope_in (S.held store.old).tree scope.now) ((S.held store.old).tree reduced) units.old.left) }
 {
-    if !matches!(reduced, Term::Pi(_, _)) {
-        return deny(alloc, scope, Reason::NotAProduct { found: reduced });
+    if !is_product(store, reduced) {
+        return deny(
+            alloc,
+            store,
+            scope,
+            ReasonIn::NotAProduct { found: reduced },
+        );
     }
-    match behind(0, infer_sort_in(alloc, sig, scope, &reduced, room, units)?)? {
-        Verdict::Yes(_) => Ok(Verdict::Yes(reduced)),
-        Verdict::No(denial) => Ok(Verdict::No(denial)),
+    match behind_in(
+        0,
+        infer_sort_at(alloc, store, sig, ids, scope, reduced, room, units),
+    )? {
+        VerdictIn::Yes(_) => Ok(VerdictIn::Yes(reduced)),
+        VerdictIn::No(denial) => Ok(VerdictIn::No(denial)),
     }
 }
 
 /// The type of a function with the type `product` at the argument `u`.
 #[cycle(check)]
-fn apply_product(
+fn apply_product<S: TermStore>(
     alloc: Global,
+    store: &mut S,
     sig: &Signature,
-    scope: &Scope,
-    u: &Term,
-    product: Term,
+    ids: &EntryIds<S::Id>,
+    scope: &Scope<S::Id>,
+    u: S::Id,
+    product: S::Id,
     room: u32,
     units: &mut Units,
-) -> Result<Verdict, Stop>
-    requires argument { CanCheck sig.now (room + 1) scope.now (tree_of u.now) }
-    requires function { CanCheck sig.now (room + 1) scope.now (tree_of product) }
-    ensures meant { Runs verdict_of result units.new.left (checking.apply_product (checking.check_of sig.now room) (scope_of scope.now) (tree_of u.now) (tree_of product) units.old.left) }
-    ensures total { units.new.left + units.new.spent ≡ units.old.left + units.old.spent }
-    ensures spends { units.new.left ≤ units.old.left }
+) -> Result<VerdictIn<S::Id>, Stop>
+    requires ids { Stands (S.held store.old) sig.now.entries ids.now }
+    requires u_live { IsTrue ((S.held store.old).live u) }
+    requires product_live { IsTrue ((S.held store.old).live product) }
+    requires argument { CanCheckIn (S.held store.old) sig.now (room + 1) scope.now ((S.held store.old).tree u) }
+    requires function { CanCheckIn (S.held store.old) sig.now (room + 1) scope.now ((S.held store.old).tree product) }
+    ensures { Decides (IsArgumentPart sig.now (scope_in (S.held store.old).tree scope.now) ((S.held store.old).tree u) ((S.held store.old).tree product)) (S.held store.old) (S.held store.new) units.old units.new result (checking.apply_product (checking.check_of sig.now room) (scope_in (S.held store.old).tree scope.now) ((S.held store.old).tree u) ((S.held store.old).tree product) units.old.left) }
 {
-    let (domain, codomain) = match product {
-        Term::Pi(domain, codomain) => (domain, codomain),
-        found => return deny(alloc, scope, Reason::NotAProduct { found }),
-    };
-    match behind(1, check_in(alloc, sig, scope, u, &domain, room, units)?)? {
-        Verdict::Yes(_) => Ok(Verdict::Yes(subst(alloc, &codomain, 0, u)?)),
-        Verdict::No(denial) => Ok(Verdict::No(denial)),
+    match store.look(&product) {
+        Node::Pi(a, b) => match behind_in(
+            1,
+            check_at(alloc, store, sig, ids, scope, u, a, room, units),
+        )? {
+            VerdictIn::Yes(_) => instance_type(alloc, store, b, u),
+            VerdictIn::No(denial) => Ok(VerdictIn::No(denial)),
+        },
+        _ => deny(
+            alloc,
+            store,
+            scope,
+            ReasonIn::NotAProduct { found: product },
+        ),
     }
 }
 
 #[cycle(check)]
-fn infer_local(
+fn infer_local<S: TermStore>(
     alloc: Global,
+    store: &mut S,
     sig: &Signature,
-    scope: &Scope,
-    a: &Term,
-    v: &Term,
-    b: &Term,
+    ids: &EntryIds<S::Id>,
+    scope: &Scope<S::Id>,
+    a: S::Id,
+    v: S::Id,
+    b: S::Id,
     room: u32,
     units: &mut Units,
-) -> Result<Verdict, Stop>
-    requires can { CanCheck sig.now (room + 1) scope.now (tree.Let (tree_of a.now) (tree_of v.now) (tree_of b.now)) }
-    ensures meant { Runs verdict_of result units.new.left (checking.infer_local (checking.infer_of sig.now room) (checking.infer_sort_of sig.now room) (checking.check_of sig.now room) (scope_of scope.now) (tree_of a.now) (tree_of v.now) (tree_of b.now) units.old.left) }
-    ensures total { units.new.left + units.new.spent ≡ units.old.left + units.old.spent }
-    ensures spends { units.new.left ≤ units.old.left }
+) -> Result<VerdictIn<S::Id>, Stop>
+    requires ids { Stands (S.held store.old) sig.now.entries ids.now }
+    requires a_live { IsTrue ((S.held store.old).live a) }
+    requires v_live { IsTrue ((S.held store.old).live v) }
+    requires b_live { IsTrue ((S.held store.old).live b) }
+    requires can { CanCheckIn (S.held store.old) sig.now (room + 1) scope.now (tree.Let ((S.held store.old).tree a) ((S.held store.old).tree v) ((S.held store.old).tree b)) }
+    ensures { Decides (IsCheckedPart sig.now (scope_in (S.held store.old).tree scope.now) (tree.Let ((S.held store.old).tree a) ((S.held store.old).tree v) ((S.held store.old).tree b))) (S.held store.old) (S.held store.new) units.old units.new result (checking.infer_local (checking.infer_of sig.now room) (checking.infer_sort_of sig.now room) (checking.check_of sig.now room) (scope_in (S.held store.old).tree scope.now) ((S.held store.old).tree a) ((S.held store.old).tree v) ((S.held store.old).tree b) units.old.left) }
 {
-    match behind(0, infer_sort_in(alloc, sig, scope, a, room, units)?)? {
-        Verdict::Yes(_) => {}
-        Verdict::No(denial) => return Ok(Verdict::No(denial)),
+    match behind_in(
+        0,
+        infer_sort_at(alloc, store, sig, ids, scope, a, room, units),
+    )? {
+        VerdictIn::Yes(_) => infer_value(alloc, store, sig, ids, scope, a, v, b, room, units),
+        VerdictIn::No(denial) => Ok(VerdictIn::No(denial)),
     }
-    match behind(1, check_in(alloc, sig, scope, v, a, room, units)?)? {
-        Verdict::Yes(_) => {}
-        Verdict::No(denial) => return Ok(Verdict::No(denial)),
+}
+
+/// The type of a `let` whose type `a` has a sort.
+#[cycle(check)]
+fn infer_value<S: TermStore>(
+    alloc: Global,
+    store: &mut S,
+    sig: &Signature,
+    ids: &EntryIds<S::Id>,
+    scope: &Scope<S::Id>,
+    a: S::Id,
+    v: S::Id,
+    b: S::Id,
+    room: u32,
+    units: &mut Units,
+) -> Result<VerdictIn<S::Id>, Stop>
+    requires ids { Stands (S.held store.old) sig.now.entries ids.now }
+    requires a_live { IsTrue ((S.held store.old).live a) }
+    requires v_live { IsTrue ((S.held store.old).live v) }
+    requires b_live { IsTrue ((S.held store.old).live b) }
+    requires can { CanCheckIn (S.held store.old) sig.now (room + 1) scope.now (tree.Let ((S.held store.old).tree a) ((S.held store.old).tree v) ((S.held store.old).tree b)) }
+    ensures { Decides (IsCheckedPart sig.now (scope_in (S.held store.old).tree scope.now) (tree.Let ((S.held store.old).tree a) ((S.held store.old).tree v) ((S.held store.old).tree b))) (S.held store.old) (S.held store.new) units.old units.new result (checking.if_typed (checking.behind 1 (checking.check_of sig.now room (scope_in (S.held store.old).tree scope.now) ((S.held store.old).tree v) ((S.held store.old).tree a) units.old.left)) (decided.infer_rest (checking.infer_of sig.now room) (scope_in (S.held store.old).tree scope.now) (tree.subst ((S.held store.old).tree b) 0 ((S.held store.old).tree v)))) }
+{
+    match behind_in(
+        1,
+        check_at(alloc, store, sig, ids, scope, v, a, room, units),
+    )? {
+        VerdictIn::Yes(_) => infer_rest(alloc, store, sig, ids, scope, v, b, room, units),
+        VerdictIn::No(denial) => Ok(VerdictIn::No(denial)),
     }
-    let body = subst(alloc, b, 0, v)?;
-    behind(2, infer_in(alloc, sig, scope, &body, room, units)?)
+}
+
+/// The type of the rest of a `let`, with the value in the place of the variable.
+#[cycle(check)]
+fn infer_rest<S: TermStore>(
+    alloc: Global,
+    store: &mut S,
+    sig: &Signature,
+    ids: &EntryIds<S::Id>,
+    scope: &Scope<S::Id>,
+    v: S::Id,
+    b: S::Id,
+    room: u32,
+    units: &mut Units,
+) -> Result<VerdictIn<S::Id>, Stop>
+    requires ids { Stands (S.held store.old) sig.now.entries ids.now }
+    requires v_live { IsTrue ((S.held store.old).live v) }
+    requires b_live { IsTrue ((S.held store.old).live b) }
+    requires value { CanCheckIn (S.held store.old) sig.now room scope.now ((S.held store.old).tree v) }
+    requires can { CanCheckIn (S.held store.old) sig.now room scope.now (tree.subst ((S.held store.old).tree b) 0 ((S.held store.old).tree v)) }
+    ensures { Decides (IsCheckedPart sig.now (scope_in (S.held store.old).tree scope.now) (tree.subst ((S.held store.old).tree b) 0 ((S.held store.old).tree v))) (S.held store.old) (S.held store.new) units.old units.new result (checking.infer_body (checking.infer_of sig.now room) (scope_in (S.held store.old).tree scope.now) (tree.subst ((S.held store.old).tree b) 0 ((S.held store.old).tree v)) units.old.left) }
+{
+    let rest = subst_in(alloc, store, b, 0, v)?;
+    behind_in(
+        2,
+        infer_at(alloc, store, sig, ids, scope, rest, room, units),
+    )
 }
 
 /// The sort of a type, where `room` calls may be open.
 #[cycle(check)]
-pub(crate) fn infer_sort_in(
+pub(crate) fn infer_sort_at<S: TermStore>(
     alloc: Global,
+    store: &mut S,
     sig: &Signature,
-    scope: &Scope,
-    t: &Term,
+    ids: &EntryIds<S::Id>,
+    scope: &Scope<S::Id>,
+    t: S::Id,
     room: u32,
     units: &mut Units,
-) -> Result<Verdict, Stop>
-    requires { CanCheck sig.now room scope.now (tree_of t.now) }
-    ensures meant { Runs verdict_of result units.new.left (checking.infer_sort_of sig.now room (scope_of scope.now) (tree_of t.now) units.old.left) }
-    ensures total { units.new.left + units.new.spent ≡ units.old.left + units.old.spent }
-    ensures spends { units.new.left ≤ units.old.left }
+) -> Result<VerdictIn<S::Id>, Stop>
+    requires ids { Stands (S.held store.old) sig.now.entries ids.now }
+    requires t_live { IsTrue ((S.held store.old).live t) }
+    requires can { CanCheckIn (S.held store.old) sig.now room scope.now ((S.held store.old).tree t) }
+    ensures { Decides (IsCheckedPart sig.now (scope_in (S.held store.old).tree scope.now) ((S.held store.old).tree t)) (S.held store.old) (S.held store.new) units.old units.new result (checking.infer_sort_of sig.now room (scope_in (S.held store.old).tree scope.now) ((S.held store.old).tree t) units.old.left) }
 {
     if room == 0 {
         return Err(Stop::Deep);
     }
-    let ty = match infer_in(alloc, sig, scope, t, room - 1, units)? {
-        Verdict::Yes(ty) => ty,
-        Verdict::No(denial) => return Ok(Verdict::No(denial)),
-    };
-    sort_of(alloc, scope, whnf(alloc, sig, &ty, true, units)?)
-}
-
-/// The reduced type of a term that is to have a sort.
-fn sort_of(alloc: Global, scope: &Scope, reduced: Term) -> Result<Verdict, Stop>
-    requires { AreLow scope.now }
-    ensures { Gives verdict_of result (checking.sort_of (scope_of scope.now) (tree_of reduced)) }
-{
-    if matches!(reduced, Term::Sort(_)) {
-        return Ok(Verdict::Yes(reduced));
+    match infer_at(alloc, store, sig, ids, scope, t, room - 1, units)? {
+        VerdictIn::Yes(ty) => sort_of(alloc, store, sig, ids, scope, ty, units),
+        VerdictIn::No(denial) => Ok(VerdictIn::No(denial)),
     }
-    deny(alloc, scope, Reason::NotASort { found: reduced })
 }
 
 /// The type of a term that is to have the type `wanted`, where `room` calls may be open.
 #[cycle(check)]
-pub(crate) fn check_in(
+pub(crate) fn check_at<S: TermStore>(
     alloc: Global,
+    store: &mut S,
     sig: &Signature,
-    scope: &Scope,
-    t: &Term,
-    wanted: &Term,
+    ids: &EntryIds<S::Id>,
+    scope: &Scope<S::Id>,
+    t: S::Id,
+    wanted: S::Id,
     room: u32,
     units: &mut Units,
-) -> Result<Verdict, Stop>
-    requires term { CanCheck sig.now room scope.now (tree_of t.now) }
-    requires wanted { CanCheck sig.now room scope.now (tree_of wanted.now) }
-    ensures meant { Runs verdict_of result units.new.left (checking.check_of sig.now room (scope_of scope.now) (tree_of t.now) (tree_of wanted.now) units.old.left) }
-    ensures total { units.new.left + units.new.spent ≡ units.old.left + units.old.spent }
-    ensures spends { units.new.left ≤ units.old.left }
+) -> Result<VerdictIn<S::Id>, Stop>
+    requires ids { Stands (S.held store.old) sig.now.entries ids.now }
+    requires t_live { IsTrue ((S.held store.old).live t) }
+    requires wanted_live { IsTrue ((S.held store.old).live wanted) }
+    requires term { CanCheckIn (S.held store.old) sig.now room scope.now ((S.held store.old).tree t) }
+    requires wanted { CanCheckIn (S.held store.old) sig.now room scope.now ((S.held store.old).tree wanted) }
+    ensures { Decides (IsCheckedAgainst sig.now (scope_in (S.held store.old).tree scope.now) ((S.held store.old).tree t) ((S.held store.old).tree wanted)) (S.held store.old) (S.held store.new) units.old units.new result (checking.check_of sig.now room (scope_in (S.held store.old).tree scope.now) ((S.held store.old).tree t) ((S.held store.old).tree wanted) units.old.left) }
 {
     if room == 0 {
         return Err(Stop::Deep);
     }
-    let found = match infer_in(alloc, sig, scope, t, room - 1, units)? {
-        Verdict::Yes(ty) => ty,
-        Verdict::No(denial) => return Ok(Verdict::No(denial)),
-    };
-    let holds = subtype_within(alloc, sig, &found, wanted, room - 1, units)?;
-    compared(alloc, scope, found, wanted, holds)
-}
-
-/// The type that was found, where it is below the wanted one.
-fn compared(
-    alloc: Global,
-    scope: &Scope,
-    found: Term,
-    wanted: &Term,
-    holds: bool,
-) -> Result<Verdict, Stop>
-    requires bound { AreLow scope.now }
-    requires low { tree.height (tree_of wanted.now) ≤ most_height }
-    ensures { Gives verdict_of result (checking.compared (scope_of scope.now) (tree_of found) (tree_of wanted.now) holds) }
-{
-    if holds {
-        return Ok(Verdict::Yes(found));
+    match infer_at(alloc, store, sig, ids, scope, t, room - 1, units)? {
+        VerdictIn::Yes(found) => {
+            compare(
+                alloc,
+                store,
+                sig,
+                ids,
+                scope,
+                found,
+                wanted,
+                room - 1,
+                units,
+            )
+        }
+        VerdictIn::No(denial) => Ok(VerdictIn::No(denial)),
     }
-    let wanted = copy(alloc, wanted)?;
-    deny(alloc, scope, Reason::Mismatch { found, wanted })
 }

@@ -14,26 +14,36 @@ ghost use Rattle.kernel_reduce.specs.Reduction.{nesting, normal_of, whnf_of};
 ghost use Rattle.kernel_reduce.specs.Tidying.{tidy_of};
 ghost use Rattle.kernel_reduce.specs.WellScoped.{AreWellScoped, CanReduce};
 ghost use Rattle.kernel_check.specs.Checking.{check_of, infer_of, infer_sort_of};
+ghost use Rattle.kernel_check.specs.Rooms.{without_room};
 ghost use Rattle.kernel_check.specs.Laws.{AreBothLow, HasType, HasUniverse, HasWanted, IfYes, IsScopedVerdict, IsSort};
 
-use core_sig::Signature;
+use crate::written_checks::check_written;
+use crate::written_reduction::{
+    convertible_written, normal_written, subtype_written, whnf_written,
+};
+use crate::written_typing::{infer_sort_written, infer_written};
+use core_sig::{EntryIds, Signature};
 use core_terms::{Stop, Tele, Term, Units, Verdict};
 use std::alloc::Global;
 use std::marker::Model;
+use term_pool::{Id, Layer};
 
-/// The values with which terms are reduced, compared and checked: where memory comes from, a scoped signature, and units.
+/// The values with which terms are reduced, compared and checked: where memory comes from, a scoped signature, units, and a layer over the
+/// pool of the signature's entries, which holds the terms of the calls, each once.
 ///
-/// Each call is the one of its name on trees, over this signature and with these units, with the same errors. After an error the
-/// units are those that the call left, and the kernel can be asked again. A kernel isn't dropped: who made it ends it by `into_units`.
+/// Each call is the one of its name on trees, over this signature and with these units, with the same errors; want of room in the layer is
+/// answered as Memory. After an error the units are those that the call left, and the kernel can be asked again. A kernel isn't dropped: who
+/// made it ends it by `into_units`.
 pub struct Kernel<'a> {
     alloc: Global,
     sig: &'a Signature,
+    ids: &'a EntryIds<Id>,
+    layer: Layer<'a>,
     units: Units,
 }
 
 impl<'a> Model for Kernel<'a> {
-    ghost use Rattle.theory.specs.SignatureScopes.{IsScopedSignature};
-    ghost use Rattle.kernel_check.specs.Kernels.{Kernel, kernel_code};
+    ghost use Rattle.kernel_check.specs.Kernels.{IsKernel, Kernel, kernel_code};
 
     ghost Value = { Kernel };
 
@@ -41,7 +51,7 @@ impl<'a> Model for Kernel<'a> {
 
     ghost view = { λ k. record { signature = k.sig.now; left = k.units.left; spent = k.units.spent } };
 
-    ghost invariant = { λ k. IsScopedSignature k.sig.now };
+    ghost invariant = { λ k. IsKernel k.layer k.sig.now k.ids.now };
 }
 
 impl<'a> Kernel<'a> {
@@ -50,7 +60,14 @@ impl<'a> Kernel<'a> {
         requires { IsScopedSignature sig.now }
         ensures { result ≡ record { signature = sig.now; left = units.left; spent = units.spent } }
     {
-        Kernel { alloc, sig, units }
+        let stored = sig.stored();
+        Kernel {
+            alloc,
+            sig,
+            ids: stored.ids,
+            layer: Layer::over(alloc, stored.pool),
+            units,
+        }
     }
 
     /// The signature.
@@ -69,8 +86,11 @@ impl<'a> Kernel<'a> {
         let Kernel {
             alloc: _,
             sig: _,
+            ids: _,
+            layer,
             units,
         } = self;
+        drop(layer);
         units
     }
 
@@ -84,7 +104,15 @@ impl<'a> Kernel<'a> {
         ensures form { IfOk result (λ u. IsHeadForm self.old.signature true (tree_of t.now) (tree_of u)) }
         ensures scoped { (n : ℕ) → IsScoped self.old.signature n (tree_of t.now) → IfOk result (λ u. IsScoped self.old.signature n (tree_of u)) }
     {
-        kernel_reduce::whnf(self.alloc, self.sig, t, true, &mut self.units)
+        without_room(whnf_written(
+            self.alloc,
+            &mut self.layer,
+            self.sig,
+            self.ids,
+            t,
+            true,
+            &mut self.units,
+        ))
     }
 
     /// The head form of a term without delta.
@@ -97,7 +125,15 @@ impl<'a> Kernel<'a> {
         ensures form { IfOk result (λ u. IsHeadForm self.old.signature false (tree_of t.now) (tree_of u)) }
         ensures scoped { (n : ℕ) → IsScoped self.old.signature n (tree_of t.now) → IfOk result (λ u. IsScoped self.old.signature n (tree_of u)) }
     {
-        kernel_reduce::tidy(self.alloc, self.sig, t, &mut self.units)
+        without_room(whnf_written(
+            self.alloc,
+            &mut self.layer,
+            self.sig,
+            self.ids,
+            t,
+            false,
+            &mut self.units,
+        ))
     }
 
     /// The normal form of a term. Without `delta` constants take no step.
@@ -111,7 +147,15 @@ impl<'a> Kernel<'a> {
         ensures low { IfOk result (λ u. tree.height (tree_of u) ≤ most_height) }
         ensures scoped { (n : ℕ) → IsScoped self.old.signature n (tree_of t.now) → IfOk result (λ u. IsScoped self.old.signature n (tree_of u)) }
     {
-        kernel_reduce::normal(self.alloc, self.sig, t, delta, &mut self.units)
+        without_room(normal_written(
+            self.alloc,
+            &mut self.layer,
+            self.sig,
+            self.ids,
+            t,
+            delta,
+            &mut self.units,
+        ))
     }
 
     /// Whether two terms are found convertible.
@@ -123,7 +167,15 @@ impl<'a> Kernel<'a> {
         ensures spends { self.new.left ≤ self.old.left }
         ensures sound { IfOk result (λ holds. IsTrue holds → Converts self.old.signature (tree_of a.now) (tree_of b.now)) }
     {
-        kernel_reduce::convertible(self.alloc, self.sig, a, b, &mut self.units)
+        without_room(convertible_written(
+            self.alloc,
+            &mut self.layer,
+            self.sig,
+            self.ids,
+            a,
+            b,
+            &mut self.units,
+        ))
     }
 
     /// Whether the first term is found below the second one.
@@ -135,7 +187,15 @@ impl<'a> Kernel<'a> {
         ensures spends { self.new.left ≤ self.old.left }
         ensures sound { IfOk result (λ holds. IsTrue holds → Below self.old.signature (tree_of a.now) (tree_of b.now)) }
     {
-        kernel_reduce::subtype(self.alloc, self.sig, a, b, &mut self.units)
+        without_room(subtype_written(
+            self.alloc,
+            &mut self.layer,
+            self.sig,
+            self.ids,
+            a,
+            b,
+            &mut self.units,
+        ))
     }
 
     /// A type of the term in the context, which lists its types from the outermost on.
@@ -149,7 +209,15 @@ impl<'a> Kernel<'a> {
         ensures scoped { IfOk result (λ v. IsScopedVerdict self.old.signature (length ctx.now) (verdict_of v)) }
         ensures low { IfOk result (λ v. IfYes (verdict_of v) (AreBothLow (tree_of t.now))) }
     {
-        crate::infer(self.alloc, self.sig, ctx, t, &mut self.units)
+        without_room(infer_written(
+            self.alloc,
+            &mut self.layer,
+            self.sig,
+            self.ids,
+            ctx.as_slice(),
+            t,
+            &mut self.units,
+        ))
     }
 
     /// The sort of the type `t` in the context. A Yes holds a sort.
@@ -164,7 +232,15 @@ impl<'a> Kernel<'a> {
         ensures low { IfOk result (λ v. IfYes (verdict_of v) (AreBothLow (tree_of t.now))) }
         ensures sort { IfOk result (λ v. IfYes (verdict_of v) IsSort) }
     {
-        crate::infer_sort(self.alloc, self.sig, ctx, t, &mut self.units)
+        without_room(infer_sort_written(
+            self.alloc,
+            &mut self.layer,
+            self.sig,
+            self.ids,
+            ctx.as_slice(),
+            t,
+            &mut self.units,
+        ))
     }
 
     /// Whether the term has the type `wanted` in the context. A Yes holds the type that was inferred.
@@ -178,6 +254,26 @@ impl<'a> Kernel<'a> {
         ensures scoped { IfOk result (λ v. IsScopedVerdict self.old.signature (length ctx.now) (verdict_of v)) }
         ensures low { IfOk result (λ v. IfYes (verdict_of v) (AreBothLow (tree_of t.now))) }
     {
-        crate::check(self.alloc, self.sig, ctx, t, wanted, &mut self.units)
+        without_room(check_written(
+            self.alloc,
+            &mut self.layer,
+            self.sig,
+            self.ids,
+            ctx.as_slice(),
+            t,
+            wanted,
+            &mut self.units,
+        ))
+    }
+}
+
+/// The answer, where want of room in a store is want of memory.
+fn without_room<A>(answer: Result<A, Stop>) -> Result<A, Stop>
+    ensures { result ≡ without_room answer }
+{
+    match answer {
+        Ok(a) => Ok(a),
+        Err(Stop::PoolFull) => Err(Stop::Memory),
+        Err(e) => Err(e),
     }
 }

@@ -1,62 +1,142 @@
-ghost use Rattle.std.specs.Prelude.{◌≡◌, ◌+◌, ◌≤◌, Some, slice_get};
+ghost use Rattle.std.specs.Prelude.{◌≡◌, ◌+◌, ◌≤◌, IfOk, IsTrue, Some, slice_get};
 ghost use Rattle.theory.specs.Terms as tree;
 ghost use Rattle.core_terms.specs.Answers.{Gives};
 ghost use Rattle.core_terms.specs.Bounds.{most_free};
-ghost use Rattle.core_terms.specs.Meanings.{tree_of, verdict_of};
+ghost use Rattle.term_pool.specs.Held.{AddsParts, Extends, IsFullFor};
+ghost use Rattle.term_pool.specs.Nodes.{says};
 ghost use Rattle.kernel_check.specs.Checking as checking;
-ghost use Rattle.kernel_check.specs.Scopes.{AreLow, CanCheck, scope_of};
+ghost use Rattle.kernel_check.specs.Symbols as spec;
+ghost use Rattle.store_reduce.specs.Additions.{AddsOnly, IsFullOf};
+ghost use Rattle.core_sig.specs.EntryIds.{Stands};
+ghost use Rattle.kernel_check.specs.Asked.{IsLeafPart};
+ghost use Rattle.kernel_check.specs.Scopes.{CanCheckIn, IsLive, scope_in};
+ghost use Rattle.kernel_check.specs.Verdicts.{AnswersIn, IsLiveVerdict, verdict_in};
 
 use crate::scope::{Scope, declared};
-use crate::symbols::{
-    axiom_k_type, constant_type, constructor_type, eliminator_type, sort_of_family,
-};
-use crate::verdicts::deny;
-use core_sig::Signature;
-use core_terms::{Reason, Stop, TOP, Term, Verdict, lift};
+use crate::symbols::symbol_type;
+use crate::type_id::TypeId;
+use crate::verdict::{ReasonIn, VerdictIn, deny};
+use core_sig::{EntryIds, Signature};
+use core_terms::{Stop, TOP};
 use std::alloc::Global;
+use term_pool::{Node, TermStore, lift_in};
 
 /// The type that the context gives to variable `n`, lifted to the whole context.
-fn variable_type(alloc: Global, scope: &Scope, n: u32) -> Result<Verdict, Stop>
-    requires bound { AreLow scope.now }
-    requires few { (a : tree.Term) → slice_get (scope_of scope.now) n ≡ Some a → tree.free_of a + (n + 1) ≤ most_free }
-    ensures { Gives verdict_of result (checking.variable_type (scope_of scope.now) n (slice_get (scope_of scope.now) n)) }
+fn variable_type<S: TermStore>(
+    alloc: Global,
+    store: &mut S,
+    scope: &Scope<S::Id>,
+    n: u32,
+) -> Result<VerdictIn<S::Id>, Stop>
+    requires context { IsLive (S.held store.old) scope.now }
+    requires few { (a : tree.Term) → slice_get (scope_in (S.held store.old).tree scope.now) n ≡ Some a → tree.free_of a + (n + 1) ≤ most_free }
+    ensures answer { AnswersIn (verdict_in (S.held store.new).tree) result (checking.variable_type (scope_in (S.held store.old).tree scope.now) n (slice_get (scope_in (S.held store.old).tree scope.now) n)) }
+    ensures live { IfOk result (IsLiveVerdict (S.held store.new)) }
+    ensures extends { Extends (S.held store.old) (S.held store.new) }
+    ensures adds { AddsOnly (IsLeafPart (scope_in (S.held store.old).tree scope.now) (tree.Var n)) (S.held store.old) (S.held store.new) }
+    ensures full { IsFullOf (IsLeafPart (scope_in (S.held store.old).tree scope.now) (tree.Var n)) (S.held store.new) result }
 {
     match declared(scope, n) {
-        Some(ty) => Ok(Verdict::Yes(lift(alloc, ty, n + 1, 0)?)),
-        None => deny(alloc, scope, Reason::NoSuchInstance),
+        TypeId::Of(ty) => lifted_type(alloc, store, ty, n + 1),
+        TypeId::TooHigh => Err(Stop::Deep),
+        TypeId::Unknown => deny(alloc, store, scope, ReasonIn::NoSuchInstance),
     }
 }
 
+/// The type of a variable that is declared as `ty`, over `by` variables more.
+fn lifted_type<S: TermStore>(
+    alloc: Global,
+    store: &mut S,
+    ty: S::Id,
+    by: u32,
+) -> Result<VerdictIn<S::Id>, Stop>
+    requires live { IsTrue ((S.held store.old).live ty) }
+    requires few { tree.free_of ((S.held store.old).tree ty) + by ≤ most_free }
+    ensures answer { AnswersIn (verdict_in (S.held store.new).tree) result (checking.typed (tree.lift ((S.held store.old).tree ty) by 0)) }
+    ensures live { IfOk result (IsLiveVerdict (S.held store.new)) }
+    ensures extends { Extends (S.held store.old) (S.held store.new) }
+    ensures adds { AddsParts (S.held store.old) (S.held store.new) (tree.lift ((S.held store.old).tree ty) by 0) }
+    ensures full { IsFullFor (S.held store.new) result (tree.lift ((S.held store.old).tree ty) by 0) }
+{
+    Ok(VerdictIn::Yes(lift_in(alloc, store, ty, by, 0)?))
+}
+
+/// The sort `Type i` as a type.
+fn sort_type<S: TermStore>(store: &mut S, i: u8) -> Result<VerdictIn<S::Id>, Stop>
+    ensures answer { AnswersIn (verdict_in (S.held store.new).tree) result (checking.typed (tree.Sort i)) }
+    ensures live { IfOk result (IsLiveVerdict (S.held store.new)) }
+    ensures extends { Extends (S.held store.old) (S.held store.new) }
+    ensures adds { AddsParts (S.held store.old) (S.held store.new) (tree.Sort i) }
+    ensures full { IsFullFor (S.held store.new) result (tree.Sort i) }
+{
+    Ok(VerdictIn::Yes(store.make(Node::Sort(i))?))
+}
+
 /// The type of a sort.
-fn universe_type(alloc: Global, scope: &Scope, i: u8) -> Result<Verdict, Stop>
-    requires { AreLow scope.now }
-    ensures { Gives verdict_of result (checking.universe_type (scope_of scope.now) i) }
+fn universe_type<S: TermStore>(
+    alloc: Global,
+    store: &mut S,
+    scope: &Scope<S::Id>,
+    i: u8,
+) -> Result<VerdictIn<S::Id>, Stop>
+    requires context { IsLive (S.held store.old) scope.now }
+    ensures answer { AnswersIn (verdict_in (S.held store.new).tree) result (checking.universe_type (scope_in (S.held store.old).tree scope.now) i) }
+    ensures live { IfOk result (IsLiveVerdict (S.held store.new)) }
+    ensures extends { Extends (S.held store.old) (S.held store.new) }
+    ensures adds { AddsOnly (IsLeafPart (scope_in (S.held store.old).tree scope.now) (tree.Sort i)) (S.held store.old) (S.held store.new) }
+    ensures full { IsFullOf (IsLeafPart (scope_in (S.held store.old).tree scope.now) (tree.Sort i)) (S.held store.new) result }
 {
     if i < TOP {
-        Ok(Verdict::Yes(Term::Sort(i + 1)))
+        sort_type(store, i + 1)
     } else {
-        deny(alloc, scope, Reason::LevelTooHigh)
+        deny(alloc, store, scope, ReasonIn::LevelTooHigh)
+    }
+}
+
+/// The type that the signature gives to a symbol.
+fn given_type<S: TermStore>(
+    alloc: Global,
+    store: &S,
+    sig: &Signature,
+    ids: &EntryIds<S::Id>,
+    scope: &Scope<S::Id>,
+    symbol: Node<S::Id>,
+) -> Result<VerdictIn<S::Id>, Stop>
+    requires ids { Stands (S.held store.now) sig.now.entries ids.now }
+    requires context { IsLive (S.held store.now) scope.now }
+    ensures answer { Gives (verdict_in (S.held store.now).tree) result (checking.given_type (scope_in (S.held store.now).tree scope.now) (spec.symbol_type sig.now (says (S.held store.now).tree symbol))) }
+    ensures live { IfOk result (IsLiveVerdict (S.held store.now)) }
+{
+    match symbol_type(sig, ids, symbol) {
+        TypeId::Of(ty) => {
+            let _low = store.height(&ty);
+            Ok(VerdictIn::Yes(ty))
+        }
+        TypeId::TooHigh => Err(Stop::Deep),
+        TypeId::Unknown => deny(alloc, store, scope, ReasonIn::NoSuchInstance),
     }
 }
 
 /// The type of a variable, a sort or a symbol.
-pub(crate) fn leaf_type(
+pub(crate) fn leaf_type<S: TermStore>(
     alloc: Global,
+    store: &mut S,
     sig: &Signature,
-    scope: &Scope,
-    t: &Term,
-) -> Result<Verdict, Stop>
-    requires { CanCheck sig.now 0 scope.now (tree_of t.now) }
-    ensures { Gives verdict_of result (checking.leaf_type sig.now (scope_of scope.now) (tree_of t.now)) }
+    ids: &EntryIds<S::Id>,
+    scope: &Scope<S::Id>,
+    leaf: Node<S::Id>,
+) -> Result<VerdictIn<S::Id>, Stop>
+    requires ids { Stands (S.held store.old) sig.now.entries ids.now }
+    requires can { CanCheckIn (S.held store.old) sig.now 0 scope.now (says (S.held store.old).tree leaf) }
+    ensures answer { AnswersIn (verdict_in (S.held store.new).tree) result (checking.leaf_type sig.now (scope_in (S.held store.old).tree scope.now) (says (S.held store.old).tree leaf)) }
+    ensures live { IfOk result (IsLiveVerdict (S.held store.new)) }
+    ensures extends { Extends (S.held store.old) (S.held store.new) }
+    ensures adds { AddsOnly (IsLeafPart (scope_in (S.held store.old).tree scope.now) (says (S.held store.old).tree leaf)) (S.held store.old) (S.held store.new) }
+    ensures full { IsFullOf (IsLeafPart (scope_in (S.held store.old).tree scope.now) (says (S.held store.old).tree leaf)) (S.held store.new) result }
 {
-    match t {
-        Term::Var(n) => variable_type(alloc, scope, *n),
-        Term::Sort(i) => universe_type(alloc, scope, *i),
-        Term::Const(n) => constant_type(alloc, sig, scope, *n),
-        Term::Fam(n) => sort_of_family(alloc, sig, scope, *n),
-        Term::Con(n, number) => constructor_type(alloc, sig, scope, *n, *number),
-        Term::Elim(n, m) => eliminator_type(alloc, sig, scope, *n, *m),
-        Term::AxiomK(i, m) => axiom_k_type(alloc, sig, scope, *i, *m),
-        _ => deny(alloc, scope, Reason::NoSuchInstance),
+    match leaf {
+        Node::Var(n) => variable_type(alloc, store, scope, n),
+        Node::Sort(i) => universe_type(alloc, store, scope, i),
+        symbol => given_type(alloc, store, sig, ids, scope, symbol),
     }
 }

@@ -16,11 +16,9 @@ ghost use Rattle.kernel_reduce.specs.WellScoped.{AreWellScoped};
 ghost use Rattle.kernel_check.specs.Checking.{infer_of, infer_sort_of, check_of};
 ghost use Rattle.kernel_check.specs.Laws.{AreBothLow, HasType, HasUniverse, HasWanted, IfYes, IsScopedVerdict, IsSort};
 
-use crate::checking::{check_in, infer_in, infer_sort_in};
-use crate::scope::Scope;
+use crate::Kernel;
 use core_sig::Signature;
 use core_terms::{Stop, Tele, Term, Units, Verdict};
-use kernel_reduce::NESTING;
 use std::alloc::Global;
 
 /// A type of the term in the context.
@@ -42,7 +40,10 @@ pub fn infer(
     ensures scoped { IfOk result (λ v. IsScopedVerdict sig.now (length ctx.now) (verdict_of v)) }
     ensures low { IfOk result (λ v. IfYes (verdict_of v) (AreBothLow (tree_of t.now))) }
 {
-    infer_in(alloc, sig, &Scope::Given(ctx.as_slice()), t, NESTING, units)
+    let mut kernel = Kernel::new(alloc, sig, *units);
+    let verdict = kernel.infer(ctx, t);
+    *units = kernel.into_units();
+    verdict
 }
 
 /// The sort of the type `t` in the context. A Yes holds a sort.
@@ -65,7 +66,10 @@ pub fn infer_sort(
     ensures scoped { IfOk result (λ v. IsScopedVerdict sig.now (length ctx.now) (verdict_of v)) }
     ensures low { IfOk result (λ v. IfYes (verdict_of v) (AreBothLow (tree_of t.now))) }
 {
-    infer_sort_in(alloc, sig, &Scope::Given(ctx.as_slice()), t, NESTING, units)
+    let mut kernel = Kernel::new(alloc, sig, *units);
+    let verdict = kernel.infer_sort(ctx, t);
+    *units = kernel.into_units();
+    verdict
 }
 
 /// Whether the term has the type `wanted` in the context. A Yes holds the type that was inferred, which is found below `wanted`.
@@ -89,13 +93,8 @@ pub fn check(
     ensures scoped { IfOk result (λ v. IsScopedVerdict sig.now (length ctx.now) (verdict_of v)) }
     ensures low { IfOk result (λ v. IfYes (verdict_of v) (AreBothLow (tree_of t.now))) }
 {
-    check_in(
-        alloc,
-        sig,
-        &Scope::Given(ctx.as_slice()),
-        t,
-        wanted,
-        NESTING,
-        units,
-    )
+    let mut kernel = Kernel::new(alloc, sig, *units);
+    let verdict = kernel.check(ctx, t, wanted);
+    *units = kernel.into_units();
+    verdict
 }

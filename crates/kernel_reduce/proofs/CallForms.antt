@@ -1,10 +1,8 @@
 -- The hypotheses and the right side of iota in the form in which the code makes them.
-use Rattle.std.proofs.Common.{◌≡◌, ℕ, zero, suc, ◌+◌, ◌-◌, ◌<◌, ◌≤◌, min, Bool, true, false, cond, nat_lt, nat_le, List, [], ◌∷◌, ◌++◌, length, get_or, take, drop, map, refl, sym, ap, ap₂, ◌∙◌, subst as transport, arith}
+use Rattle.std.proofs.Common.{◌≡◌, ℕ, zero, suc, ◌+◌, ◌-◌, ◌<◌, ◌≤◌, min, Bool, true, false, cond, nat_lt, nat_le, List, [], ◌∷◌, ◌++◌, length, get_or, take, drop, map, refl, sym, ap, ap₂, ◌∙◌, arith}
 use mathlib.Core.Path.{fun_ext}
 use Rattle.std.proofs.lemmas.Bool.Decides.{nat_tests}
-use Rattle.std.proofs.lemmas.List.{length-append, length-drop, map-append}
-use Rattle.std.proofs.lemmas.List.Elements.{All-take}
-use Rattle.std.specs.List.{All}
+use Rattle.std.proofs.lemmas.List.{length-append, map-append}
 use Rattle.std.proofs.Math.Seq.{take-suc, drop-cons}
 use Rattle.theory.specs.Terms.{Term, lift}
 use Rattle.theory.specs.Terms.Term.{Var, Sort, Pi, Lam, App, Let, Const, Fam, Con, Elim, AxiomK}
@@ -13,8 +11,7 @@ use Rattle.theory.specs.Telescopes.{applied, variables}
 use Rattle.theory.specs.Spines.{spine_of}
 use Rattle.theory.specs.Eliminators.{hypothesis, hypotheses, no_variable}
 use Rattle.theory.proofs.Commuting.{lift_by_none}
-use Rattle.core_terms.specs.Meanings.{tree_of, tele_of}
-use Rattle.core_terms.specs.declared.term.Term as code
+use Rattle.core_terms.specs.Meanings.{tree_of}
 use Rattle.core_sig.specs.Meanings.{domains, behind, argument_with, argument_of}
 use Rattle.core_sig.specs.declared.family.Arg.{Arg}
 use Rattle.core_sig.specs.declared.family.ArgKind.{ArgKind}
@@ -169,41 +166,3 @@ hypotheses-are values p recursor known (a ∷ args) few fits =
     by (kind.Recursive inner) rest =
         ap₂ ◌∷◌ (hypothesis-is (take known values) p recursor v inner (tree_of a.ty) few)
         (rest ∙ ap₂ (λ s n. hypotheses s recursor (map (argument_of p) args) (drop n values)) (sym more) one)
-
-map-take : {A B : Type 0} (f : A → B) (n : ℕ) (xs : List A) → map f (take n xs) ≡ take n (map f xs)
-map-take f zero [] = refl
-map-take f zero (x ∷ xs) = refl
-map-take f (suc n) [] = refl
-map-take f (suc n) (x ∷ xs) = ap (λ ys. f x ∷ ys) (map-take f n xs)
-
-pub map-drop : {A B : Type 0} (f : A → B) (n : ℕ) (xs : List A) → map f (drop n xs) ≡ drop n (map f xs)
-map-drop f zero xs = refl
-map-drop f (suc n) [] = refl
-map-drop f (suc n) (x ∷ xs) = map-drop f n xs
-
-pub tele_take : (n : ℕ) (xs : List code.Term) → tele_of (take n xs) ≡ take n (tele_of xs)
-tele_take n xs = map-take tree_of n xs
-
--- a value of the code, whatever is past the end
-pub value-there : (values : List code.Term) (k : ℕ) (r : code.Term) (d : Term) → k < length values → r ≡ get_or values k r → tree_of r ≡ get_or (tele_of values) k d
-value-there [] k r d low e = absurd (omega arith)
-value-there (v ∷ values) zero r d low e = ap tree_of e
-value-there (v ∷ values) (suc k) r d low e = value-there values k r d (omega arith) e
-
-pub first-values : (P : Term → Type 0) (values : List code.Term) (k : ℕ) → All P (tele_of values) → All P (tele_of (take k values))
-first-values P values k h = transport (All P) (sym (tele_take k values)) (All-take P k (tele_of values) h)
-
-pub hypothesis-values : (values : List code.Term) (p : ℕ) (recursor : Term) (known : ℕ) (r : code.Term) (inner : ℕ) (t : Term) → known < length values → r ≡ get_or values known r
-    → hypothesis_of (tele_of (take known values)) p recursor (tree_of r) inner 0 t ≡ hypothesis_of (take known (tele_of values)) p recursor (get_or (tele_of values) known (Sort 0)) inner 0 t
-hypothesis-values values p recursor known r inner t low e =
-    ap₂ (λ us u. hypothesis_of us p recursor u inner 0 t) (tele_take known values) (value-there values known r (Sort 0) low e)
-
-take-whole : {A : Type 0} (xs : List A) (k : ℕ) → length xs ≤ k → take k xs ≡ xs
-take-whole [] zero low = refl
-take-whole [] (suc k) low = refl
-take-whole (x ∷ xs) zero low = absurd (omega arith)
-take-whole (x ∷ xs) (suc k) low = ap (λ ys. x ∷ ys) (take-whole xs k (omega arith))
-
-pub tele_behind : (n : ℕ) (xs : List code.Term) → tele_of (take (length xs - n) (drop n xs)) ≡ drop n (tele_of xs)
-tele_behind n xs =
-    ap tele_of (take-whole (drop n xs) (length xs - n) (omega (arith, length-drop n xs))) ∙ map-drop tree_of n xs

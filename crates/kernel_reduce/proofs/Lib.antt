@@ -5,6 +5,7 @@ pub mod ComparisonLaws
 pub mod Contractions
 pub mod DerivationScopes
 pub mod Examples
+pub mod HighTerms
 pub mod Identities
 pub mod IotaBounds
 pub mod IotaForms
@@ -19,4 +20,3 @@ pub mod StepLaws
 pub mod StepTests
 pub mod WellFormedScopes
 pub mod WellScoped
-pub mod WhnfForms

@@ -1,5 +1,5 @@
 -- A property of the meant answer is one of the call's answer.
-use Rattle.std.proofs.Common.{◌≡◌, ℕ, Option, Some, None, IfSome, option_map, Result, Ok, Err, IfOk, sym, ap, subst as transport}
+use Rattle.std.proofs.Common.{◌≡◌, ℕ, Result, Ok, IfOk, sym, ap, subst as transport}
 use Rattle.core_terms.specs.Answers.{IsUnforeseen, Spent, Runs}
 use Rattle.core_terms.proofs.Answers.{spends-has}
 use Rattle.core_terms.specs.declared.stop.Stop.{Stop}
@@ -9,10 +9,3 @@ meant-has P b left meant e h = transport (λ r. IfOk r P) (sym (ap (λ (s : Spen
 
 pub runs-has : {A B : Type 0} (f : A → B) (P : B → Type 0) (result : Result A Stop) (left : ℕ) (meant : Spent B) → Runs f result left meant → IfOk meant.0 P → IfOk result (λ a. P (f a))
 runs-has f P result left meant e h = spends-has IsUnforeseen (λ x. x) f P result left meant e h
-
--- a property of a value that may be there
-pub runs-some : {A B : Type 0} (f : A → B) (P : B → Type 0) (result : Result (Option A) Stop) (left : ℕ) (meant : Spent (Option B)) → Runs (option_map f) result left meant
-    → IfOk meant.0 (λ o. IfSome o P) → IfOk result (λ o. IfSome o (λ a. P (f a)))
-runs-some f P (Ok (Some a)) left meant e h = meant-has (λ o. IfSome o P) (Some (f a)) left meant e h
-runs-some f P (Ok None) left meant e h = tt
-runs-some f P (Err x) left meant e h = tt

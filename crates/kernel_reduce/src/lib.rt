@@ -1,25 +1,15 @@
-//! Reduction and comparison of terms, with units.
+//! Reduction and comparison of terms as definitions, with units, and the laws about them; and what a kernel reads of a signature.
 //!
-//! Every call has one condition: its terms are scoped, and few variables are free in them (`specs/WellScoped`). A caller
-//! shows it for the terms of a context, and carries it on to their parts, under binders and to answers by the lemmas of
-//! `proofs/WellScoped`.
+//! A term that is reduced or compared is scoped, and few variables are free in it (`specs/WellScoped`). A caller shows it for the terms of
+//! a context, and carries it on to their parts, under binders and to answers by the lemmas of `proofs/WellScoped`.
 #![tactic(auto)]
 
-mod calls;
-mod comparing;
-mod contracting;
-mod head_steps;
 mod identity;
-mod iota;
 pub mod laws;
 mod lookup;
-mod normalising;
-mod ordering;
-mod reducing;
-mod spine;
-mod stepping;
-mod testing;
 
-pub use calls::{NESTING, convertible, head_step, normal, subtype, subtype_within, tidy, whnf};
 pub use identity::has_k;
 pub use lookup::{constructor, eliminator_arity, family, takes};
+
+/// How many calls may be open at once.
+pub const NESTING: u32 = 2000;

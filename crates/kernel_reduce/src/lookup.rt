@@ -1,26 +1,11 @@
 ghost use Rattle.std.specs.Prelude.{◌≡◌, ◌+◌, ◌==◌, length, option_map, slice_get, IfSome};
 ghost use Rattle.std.specs.Option.{option_copied};
-ghost use Rattle.core_terms.specs.Meanings.{tree_of};
 ghost use Rattle.core_sig.specs.Kinds.{HasKinds};
 ghost use Rattle.core_sig.specs.Meanings.{family_of};
-ghost use Rattle.kernel_reduce.specs.Entries.{body_at, family_at};
+ghost use Rattle.kernel_reduce.specs.Entries.{family_at};
 ghost use Rattle.kernel_reduce.specs.Tests.{family_takes};
 
 use core_sig::{Constructor, Entry, Family, Signature};
-use core_terms::Term;
-
-/// The body of a constant, unless it is provisional.
-pub(crate) fn body(sig: &Signature, n: u32) -> Option<&Term>
-    ensures { option_map tree_of (option_copied result) ≡ body_at sig.now n }
-{
-    match sig.entry(n) {
-        Some(Entry::Def { body, .. }) => match body {
-            Term::Const(c) if *c == n => None,
-            _ => Some(body),
-        },
-        _ => None,
-    }
-}
 
 /// The family with the number, where the entry is one.
 pub fn family(sig: &Signature, n: u32) -> Option<&Family>

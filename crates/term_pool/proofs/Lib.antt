@@ -1,3 +1,5 @@
+pub mod Instancing
+pub mod Layering
 pub mod Memos
 pub mod Pooling
 pub mod Putting

@@ -1,4 +1,6 @@
 pub mod Held
+pub mod Instantiation
+pub mod Layers
 pub mod Lifting
 pub mod Memo
 pub mod NodeFacts

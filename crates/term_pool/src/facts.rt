@@ -1,5 +1,5 @@
 //! The facts that are kept of the tree of a node, so that it takes one step to know them.
-ghost use Rattle.std.specs.Prelude.{◌≡◌, ◌≤◌, ◌<◌, ℕ};
+ghost use Rattle.std.specs.Prelude.{◌≡◌, ◌≤◌, ◌<◌, ◌++◌, ℕ};
 ghost use Rattle.term_pool.specs.NodeFacts.{node_facts, bound_inside, of_two_parts, of_three_parts, AreLow};
 ghost use Rattle.term_pool.specs.Shelves.{fact_at, node_at, tree_at, AreShelved};
 ghost use Rattle.term_pool.specs.Nodes.{says, AllParts};
@@ -58,10 +58,23 @@ pub(crate) fn facts_at(facts: &[Facts], at: u32) -> Facts
     }
 }
 
-/// The facts of a node, by those of its parts.
-pub(crate) fn facts_of_node<I: Placed>(facts: &[Facts], node: &Node<I>) -> Facts
-    requires { AreLow facts.now }
-    ensures { result ≡ node_facts (λ p. fact_at facts.now (I.place p)) node.now }
+/// The facts that are kept for the place in two lists, one after the other.
+#[tactic(auto, using(crate::proofs::Layering::place_laws))]
+pub(crate) fn fact_over(below: &[Facts], facts: &[Facts], at: u32) -> Facts
+    ensures { result ≡ fact_at (below.now ++ facts.now) at }
+{
+    let count = below.len();
+    if (at as usize) < count {
+        facts_at(below, at)
+    } else {
+        facts_at(facts, at - count as u32)
+    }
+}
+
+/// The facts of a node, by those of its parts, which are kept in two lists, one after the other.
+pub(crate) fn facts_of_node<I: Placed>(below: &[Facts], facts: &[Facts], node: &Node<I>) -> Facts
+    requires { AreLow (below.now ++ facts.now) }
+    ensures { result ≡ node_facts (λ p. fact_at (below.now ++ facts.now) (I.place p)) node.now }
 {
     match node {
         Node::Var(n) => Facts {
@@ -69,17 +82,17 @@ pub(crate) fn facts_of_node<I: Placed>(facts: &[Facts], node: &Node<I>) -> Facts
             bound: *n as u64 + 1,
         },
         Node::Pi(first, second) | Node::Lam(first, second) => around(
-            facts_at(facts, first.place()),
-            inside(facts_at(facts, second.place())),
+            fact_over(below, facts, first.place()),
+            inside(fact_over(below, facts, second.place())),
         ),
         Node::App(function, argument) => around(
-            facts_at(facts, function.place()),
-            facts_at(facts, argument.place()),
+            fact_over(below, facts, function.place()),
+            fact_over(below, facts, argument.place()),
         ),
         Node::Let(ty, value, rest) => around_three(
-            facts_at(facts, ty.place()),
-            facts_at(facts, value.place()),
-            inside(facts_at(facts, rest.place())),
+            fact_over(below, facts, ty.place()),
+            fact_over(below, facts, value.place()),
+            inside(fact_over(below, facts, rest.place())),
         ),
         Node::Sort(_)
         | Node::Const(_)

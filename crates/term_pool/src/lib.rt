@@ -4,6 +4,8 @@
 
 mod facts;
 mod ids;
+mod instantiation;
+mod layer;
 mod lifting;
 mod memo;
 mod node;
@@ -16,6 +18,8 @@ mod terms;
 mod trees;
 
 pub use ids::{Id, Mark, TreeId};
+pub use instantiation::inst_in;
+pub use layer::Layer;
 pub use lifting::lift_in;
 pub use node::Node;
 pub use pool::Pool;

@@ -6,7 +6,7 @@ ghost use Rattle.theory.specs.Terms as tree;
 ghost use Rattle.term_pool.specs.Held.{Extends, AddsParts, Makes, IsFullFor, IsRefusedNew, IsNew, Keeps, Notes};
 ghost use Rattle.term_pool.specs.Memo.{is_row_below, if_below};
 ghost use Rattle.term_pool.specs.Nodes.{says, AllPass};
-ghost use Rattle.term_pool.specs.Pools.{Pooled, IsWhole, pool_held};
+ghost use Rattle.term_pool.specs.Pools.{Pooled, IsPool, IsWhole, pool_held};
 ghost use Rattle.term_pool.specs.Shelves.{facts_of, node_at};
 
 use crate::facts::{Facts, facts_at, facts_of_node, shelved_node};
@@ -61,6 +61,21 @@ impl Pool {
         })
     }
 
+    /// No nodes and no rows, and room for 50,000,000 nodes; takes no memory.
+    pub fn empty(alloc: Global) -> Pool
+        ensures { result ≡ record { nodes = []; cap = 50000000; told = 0; rows = []; missed = 0 } }
+    {
+        Pool {
+            nodes: IndexSet::new(alloc),
+            facts: Vec::new(alloc),
+            cap: 50000000,
+            told: 0,
+            memo: Memo::new(alloc),
+            missed: 0,
+            alloc,
+        }
+    }
+
     /// The id of the node, which is added where it is new.
     pub fn intern(&mut self, node: Node<Id>) -> Result<Id, Stop>
         requires { AllPass (pool_held self.old).live node }
@@ -75,6 +90,35 @@ impl Pool {
             Some(id) => Ok(id),
             None => self.add(node),
         }
+    }
+
+    /// The nodes in the order in which they were made.
+    pub(crate) fn nodes(&self) -> &[Node<Id>]
+        ensures { result.now ≡ self.now.nodes }
+    {
+        self.nodes.as_slice()
+    }
+
+    /// The facts of the nodes, in their order.
+    pub(crate) fn kept(&self) -> &[Facts]
+        ensures { IsPool self.now.nodes result.now self.now.cap }
+    {
+        self.facts.as_slice()
+    }
+
+    /// How many nodes there may be.
+    pub(crate) fn cap(&self) -> u32
+        ensures { result ≡ self.now.cap }
+    {
+        self.cap
+    }
+
+    /// The place of the node, where it is there.
+    pub(crate) fn place(&self, node: &Node<Id>) -> Option<usize>
+        ensures found { IfSome result (λ i. (i < length self.now.nodes) × (node_at self.now.nodes i ≡ node.now)) }
+        ensures absent { IfNone result ((i : ℕ) → i < length self.now.nodes → node_at self.now.nodes i ≢ node.now) }
+    {
+        place_of(&self.nodes, node)
     }
 
     /// The id of the node, where it is there.
@@ -118,7 +162,7 @@ impl Pool {
     fn facts_of(&self, node: &Node<Id>) -> Facts
         ensures { result ≡ facts_of (says (pool_held self.now).tree node.now) }
     {
-        facts_of_node(self.facts.as_slice(), node)
+        facts_of_node(&[], self.facts.as_slice(), node)
     }
 
     /// Whether there is room for no node more.
@@ -267,7 +311,7 @@ impl TermStore for Pool {
 }
 
 /// The place of the node, where it is there.
-fn place_of(nodes: &IndexSet<Node<Id>>, node: &Node<Id>) -> Option<usize>
+pub(crate) fn place_of(nodes: &IndexSet<Node<Id>>, node: &Node<Id>) -> Option<usize>
     ensures found { IfSome result (λ i. (i < length nodes.now.keys) × (node_at nodes.now.keys i ≡ node.now)) }
     ensures absent { IfNone result ((i : ℕ) → i < length nodes.now.keys → node_at nodes.now.keys i ≢ node.now) }
 {

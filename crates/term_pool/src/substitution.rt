@@ -181,7 +181,12 @@ fn subst_variable<S: TermStore>(
 
 /// Lifts the term by so many binders, or answers Deep where it is too high under them.
 #[tactic(auto, using(crate::proofs::Putting::lift_laws))]
-fn lift_low<S: TermStore>(alloc: Global, store: &mut S, t: S::Id, under: u32) -> Result<S::Id, Stop>
+pub(crate) fn lift_low<S: TermStore>(
+    alloc: Global,
+    store: &mut S,
+    t: S::Id,
+    under: u32,
+) -> Result<S::Id, Stop>
     requires live { IsTrue ((S.held store.old).live t) }
     requires indices { tree.free_of ((S.held store.old).tree t) ≤ most_free }
     requires binders { under ≤ 2000 }

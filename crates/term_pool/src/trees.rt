@@ -49,7 +49,7 @@ impl Trees {
     fn facts_of(&self, node: &Node<TreeId>) -> Facts
         ensures { result ≡ facts_of (says (λ p. tree_at tree_place self.now.nodes p.at) node.now) }
     {
-        facts_of_node(self.facts.as_slice(), node)
+        facts_of_node(&[], self.facts.as_slice(), node)
     }
 }
 

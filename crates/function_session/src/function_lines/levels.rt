@@ -36,6 +36,24 @@ fn sort_of(
     }
 }
 
+/// The same, with units in place of a kernel.
+fn sort_with(
+    alloc: Global,
+    sig: &Signature,
+    ty: &Term,
+    units: &mut Units,
+) -> Result<Term, FunctionRefusal>
+    requires { AreWellScoped sig.now [] (tree_of ty.now ∷ []) }
+    ensures answer { Elaborates tree_of result units.new.left (spec.granted sig.now spec.OfType (infer_sort_of sig.now nesting [] (tree_of ty.now) units.old.left)) }
+    ensures sum { units.new.left + units.new.spent ≡ units.old.left + units.old.spent }
+    ensures spends { units.new.left ≤ units.old.left }
+{
+    let mut kernel = Kernel::new(alloc, sig, *units);
+    let sort = sort_of(alloc, sig, ty, &mut kernel);
+    *units = kernel.into_units();
+    sort
+}
+
 /// The level of a function with this type.
 pub(crate) fn level_of(
     alloc: Global,
@@ -48,8 +66,6 @@ pub(crate) fn level_of(
     ensures sum { units.new.left + units.new.spent ≡ units.old.left + units.old.spent }
     ensures spends { units.new.left ≤ units.old.left }
 {
-    let mut kernel = Kernel::new(alloc, sig, *units);
-    let sort = sort_of(alloc, sig, ty, &mut kernel);
-    *units = kernel.into_units();
-    function_level(alloc, sig, &sort?)
+    let sort = sort_with(alloc, sig, ty, units)?;
+    function_level(alloc, sig, &sort)
 }

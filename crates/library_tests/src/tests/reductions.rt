@@ -1,12 +1,13 @@
 // Limits of calls of reduction that no typed term reaches, with the units that were counted by hand.
-ghost use Rattle.std.specs.Prelude.{◌≡◌, IfOk, IsTrue};
+ghost use Rattle.std.specs.Prelude.{◌≡◌, [], ◌∷◌, IfOk, IsTrue};
 ghost use Rattle.core_terms.specs.Meanings.{tree_of};
 ghost use Rattle.theory.specs.SignatureScopes.{IsScoped, IsScopedSignature};
 ghost use Rattle.kernel_reduce.specs.Reduction.{most_variables};
+ghost use Rattle.kernel_reduce.specs.WellScoped.{CanReduce};
 
 use core_sig::{Signature, is_scoped};
 use core_terms::{MAX_HEIGHT, Stop, Term, Units, copy};
-use kernel_reduce::{convertible, head_step, whnf};
+use kernel_check::Kernel;
 use std::alloc::Global;
 use std::process::Abort;
 use std::test::Fail;
@@ -30,6 +31,16 @@ fn units(left: u64) -> Units
     Units { left, spent: 0 }
 }
 
+/// The head form of a term with so many units.
+fn head_form(alloc: Global, sig: &Signature, t: &Term, count: u64) -> Result<Term, Stop>
+    requires { CanReduce sig.now (tree_of t.now ∷ []) }
+{
+    let mut kernel = Kernel::new(alloc, sig, units(count));
+    let form = kernel.whnf(t);
+    let _units = kernel.into_units();
+    form
+}
+
 /// A product whose codomain steps to the same product again, and so on: `(\(x : Type i). Type 0 -> x x)` applied to itself.
 fn endless(alloc: Global, i: u8) -> Result<Term, Stop> {
     let again = Term::new_app(alloc, Term::Var(1), Term::Var(1))?;
@@ -51,7 +62,10 @@ fn compare_endless(
     let b = endless(alloc, 1)?;
     assert!(rt; can_reduce(sig, &a));
     assert!(rt; can_reduce(sig, &b));
-    convertible(alloc, sig, &a, &b, &mut units(count))
+    let mut kernel = Kernel::new(alloc, sig, units(count));
+    let holds = kernel.convertible(&a, &b);
+    let _units = kernel.into_units();
+    holds
 }
 
 /// Each open call spends one unit and two for the steps of its terms, and all but the last one for the domains.
@@ -84,7 +98,7 @@ fn is_its_own_form(
 {
     let t = tower(alloc, domains, Term::Sort(0))?;
     assert!(rt; can_reduce(sig, &t));
-    let form = whnf(alloc, sig, &t, true, &mut units(0))?;
+    let form = head_form(alloc, sig, &t, 0)?;
     Ok(form.same(&t))
 }
 
@@ -112,7 +126,7 @@ fn grows_too_high(rt: HostRuntime) -> Result<(), Fail> {
     let sig = scoped_prelude(alloc)?;
     let t = growing(alloc)?;
     assert!(rt; can_reduce(&sig, &t));
-    let step = head_step(alloc, &sig, &t, true, &mut units(1));
-    assert!(rt; matches!(step, Err(Stop::Deep)));
+    let form = head_form(alloc, &sig, &t, 1);
+    assert!(rt; matches!(form, Err(Stop::Deep)));
     Ok(())
 }

@@ -6,7 +6,7 @@ use Rattle.theory.proofs.PreludeWellFormed.{prelude_is_well_formed}
 use Rattle.core_sig.specs.Meanings.{family_of}
 use Rattle.core_sig.specs.Names.{find}
 use Rattle.core_sig.proofs.NewNames.{new-entry}
-use Rattle.core_sig.proofs.PreludeEntries.{first_entries-push}
+use Rattle.core_sig.proofs.PreludeEntries.{first_entries-push, prelude-low}
 use Rattle.core_sig.proofs.prelude.push_next.Goals as goal
 
 pub push-requires-clause-unknown : goal.push-requires-clause-unknown
@@ -32,3 +32,9 @@ returns-clause-ok c =
 
 pub push-requires-clause-kinds : goal.push-requires-clause-kinds
 push-requires-clause-kinds c = c.in_ok-family.ensures.kinds (length c.args.sig.now.entries)
+
+pub push-requires-clause-can : goal.push-requires-clause-can
+push-requires-clause-can c =
+    let S = c.args.sig.now in
+    let next = transport (λ n. IsEntryAt (prelude S.has_k) n (FamilyOf (family_of c.in_ok-family.family))) c.len.ensures (c.in_ok-family.ensures.ok S.has_k) in
+    prelude-low S.has_k (length S.entries) (length S.entries) (family_of c.in_ok-family.family) next

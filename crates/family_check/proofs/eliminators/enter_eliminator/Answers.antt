@@ -5,6 +5,7 @@ use Rattle.theory.specs.Signatures.{EliminatorAt}
 use Rattle.theory.specs.SignatureScopes.{IsScoped}
 use Rattle.theory.specs.Terms.{top}
 use Rattle.core_terms.specs.Meanings.{tree_of}
+use Rattle.kernel_check.proofs.FamilyScopes.{family-over}
 use Rattle.kernel_reduce.proofs.WellScoped.{closed_terms}
 use Rattle.family_check.proofs.Instances.{high_yields, made-is}
 use Rattle.family_check.proofs.ScopedEntering.{eliminator-scoped}
@@ -23,3 +24,9 @@ enter-requires-clause-asked c =
     let type = transport (IsScoped c.args.sig.now 0) (sym (made-is (tree_of c.in_ok-ty.ty) (eliminator_type c.args.fam f c.args.m) (c.in_ok-ty.ensures f at)))
     (eliminator-scoped c.args.sig.now c.args.fam c.args.m f c.requires.signature at (omega arith)) in
     closed_terms c.requires.signature.scoped (type, tt)
+
+pub enter-requires-clause-can : goal.enter-requires-clause-can
+enter-requires-clause-can c =
+    let f = c.requires.family.0 in
+    let at = c.requires.family.1 in
+    (f, at, family-over c.args.sig.now c.args.fam f c.requires.signature.scoped at)

@@ -1,11 +1,13 @@
 use Rattle.std.proofs.Common.{◌≡◌, ◌≢◌, None, length, All, AllPairs, true, sym, subst as transport}
 use Rattle.theory.specs.Signatures.{FamilyOf, names_of}
+use Rattle.core_sig.specs.EntryIds.{AreLowBehind}
 use Rattle.core_sig.specs.Kinds.{HasKinds}
 use Rattle.core_sig.specs.Meanings.{family_of}
 use Rattle.core_sig.specs.Names.{find}
 use Rattle.core_sig.specs.Raw.{raw_names, raw_of}
 use Rattle.family_check.specs.Entering.{are_new}
 use Rattle.family_check.proofs.Declaring.{distinct-names, family-names, unknown-names}
+use Rattle.family_check.proofs.LowEntries.{declared-low}
 use Rattle.family_check.proofs.families.enter_family.Goals as goal
 
 pub push-requires-clause-unknown : goal.push-requires-clause-unknown
@@ -26,3 +28,9 @@ push-requires-clause-distinct c =
 pub push-requires-clause-kinds : goal.push-requires-clause-kinds
 push-requires-clause-kinds c =
     transport (λ T. HasKinds (length T.entries) c.in_ok-family.family) (sym c.in_ok-family.ensures.kept) c.in_ok-family.ensures.kinds
+
+pub push-requires-clause-can : goal.push-requires-clause-can
+push-requires-clause-can c =
+    let raw = raw_of c.args.raw in
+    transport (λ T. AreLowBehind (length T.entries) (family_of c.in_ok-family.family)) (sym c.in_ok-family.ensures.kept)
+    (declared-low c.args.sig.now raw (family_of c.in_ok-family.family) _ _ c.in_ok-family.ensures.answer)

@@ -8,6 +8,7 @@ use Rattle.kernel_reduce.specs.WellScoped.{AreWellScoped}
 use Rattle.family_check.specs.Families.{declare_constructors}
 use Rattle.family_check.specs.Meanings.{Yields}
 use Rattle.family_check.proofs.Declaring.{given_family, bare-unknown, bare-distinct, bare-kinds}
+use Rattle.family_check.proofs.LowEntries.{bare-low}
 use Rattle.family_check.proofs.Settling.{first-all}
 use Rattle.family_check.proofs.families.over_bare.Goals as goal
 
@@ -21,6 +22,10 @@ push-requires-clause-distinct c =
 
 pub push-requires-clause-kinds : goal.push-requires-clause-kinds
 push-requires-clause-kinds c = bare-kinds (length c.args.sig.now.entries) c.in_ok-copy_bare.field-0 c.in_ok-copy_bare.ensures.bare
+
+pub push-requires-clause-can : goal.push-requires-clause-can
+push-requires-clause-can c =
+    bare-low (length c.args.sig.now.entries) c.args.bare.now c.in_ok-copy_bare.field-0 (given_family _ _ c.in_ok-copy_bare.ensures.meant) c.requires.bare
 
 pub declare_constructors-made-requires-clause-asked : goal.declare_constructors-made-requires-clause-asked
 declare_constructors-made-requires-clause-asked c =

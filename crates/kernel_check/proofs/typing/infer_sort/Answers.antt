@@ -1,42 +1,22 @@
-use Rattle.std.proofs.Common.{[], arith}
+use Rattle.std.proofs.Common.{ℕ, [], IfOk, sym, subst as transport}
 use Rattle.theory.specs.Telescopes.{context_behind}
-use Rattle.core_terms.specs.Meanings.{tree_of, tele_of}
+use Rattle.theory.specs.Typing.{IsContext}
+use Rattle.theory.specs.WellFormed.{IsTyped}
+use Rattle.core_terms.specs.Answers.{Runs}
+use Rattle.core_terms.specs.Meanings.{tree_of, tele_of, verdict_of}
 use Rattle.kernel_reduce.specs.Reduction.{nesting}
 use Rattle.kernel_check.specs.Checking.{infer_sort_of}
-use Rattle.kernel_check.specs.Laws.{AreBothLow, HasUniverse, IfYes, IsSort}
-use Rattle.kernel_check.proofs.AnswerHeights.{infer_sort-is_low, infer_sort-is_sort}
-use Rattle.kernel_check.proofs.Conditions.{can_given, given_context, given_runs, given_term, answer-has, answer-scoped}
-use Rattle.kernel_check.proofs.Scoped.{infer_sort-scoped}
-use Rattle.kernel_check.proofs.Soundness.{infer_sort-is_sound}
+use Rattle.kernel_check.specs.Kernels.{Kernel}
+use Rattle.kernel_check.specs.Laws.{HasUniverse, IfYes}
 use Rattle.kernel_check.proofs.typing.infer_sort.Goals as goal
-
-pub infer_sort_in-requires : goal.infer_sort_in-requires
-infer_sort_in-requires c =
-    can_given c.as_slice.result c.args.ctx.now nesting c.as_slice.ensures c.requires (omega arith)
 
 pub returns-clause-answer : goal.returns-clause-answer
 returns-clause-answer c =
-    given_runs (λ G. infer_sort_of c.args.sig.now nesting G (tree_of c.args.t.now) c.args.units.now.left) c.as_slice.result c.args.ctx.now c.infer_sort_in.result _
-    c.as_slice.ensures c.infer_sort_in.ensures.meant
+    let P : ℕ → Kernel → Type 0 = λ left k. Runs verdict_of c.infer_sort-verdict.result left (infer_sort_of k.signature nesting (context_behind [] (tele_of c.args.ctx.now)) (tree_of c.args.t.now) k.left) in
+    transport (P c.into_units.result.left) c.new-kernel.ensures
+    (transport (λ left. P left c.new-kernel.result) (sym c.into_units.ensures.left) c.infer_sort-verdict.ensures.answer)
 
 pub returns-clause-sound : goal.returns-clause-sound
-returns-clause-sound c = λ typed context.
-    let G = context_behind [] (tele_of c.args.ctx.now) in
-    answer-has (λ v. IfYes v (HasUniverse c.args.sig.now G (tree_of c.args.t.now))) c.infer_sort_in.result _ _ (returns-clause-answer c)
-    (infer_sort-is_sound c.args.sig.now typed nesting G (tree_of c.args.t.now) c.args.units.now.left context)
-
-pub returns-clause-scoped : goal.returns-clause-scoped
-returns-clause-scoped c =
-    answer-scoped c.args.sig.now c.args.ctx.now c.infer_sort_in.result _ _ (returns-clause-answer c)
-    (infer_sort-scoped c.args.sig.now nesting (context_behind [] (tele_of c.args.ctx.now)) (tree_of c.args.t.now) c.args.units.now.left c.requires.signature
-    (given_context c.args.ctx.now c.requires) (given_term c.args.ctx.now c.requires))
-
-pub returns-clause-low : goal.returns-clause-low
-returns-clause-low c =
-    answer-has (λ v. IfYes v (AreBothLow (tree_of c.args.t.now))) c.infer_sort_in.result _ _ (returns-clause-answer c)
-    (infer_sort-is_low c.args.sig.now nesting (context_behind [] (tele_of c.args.ctx.now)) (tree_of c.args.t.now) c.args.units.now.left)
-
-pub returns-clause-sort : goal.returns-clause-sort
-returns-clause-sort c =
-    answer-has (λ v. IfYes v IsSort) c.infer_sort_in.result _ _ (returns-clause-answer c)
-    (infer_sort-is_sort c.args.sig.now nesting (context_behind [] (tele_of c.args.ctx.now)) (tree_of c.args.t.now) c.args.units.now.left)
+returns-clause-sound c =
+    transport (λ (k : Kernel). IsTyped k.signature → IsContext k.signature (context_behind [] (tele_of c.args.ctx.now)) → IfOk c.infer_sort-verdict.result (λ v. IfYes (verdict_of v) (HasUniverse k.signature (context_behind [] (tele_of c.args.ctx.now)) (tree_of c.args.t.now))))
+    c.new-kernel.ensures c.infer_sort-verdict.ensures.sound

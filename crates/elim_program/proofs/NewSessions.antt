@@ -1,0 +1,24 @@
+-- What is written, and what is counted, in a session that begins with the prelude.
+use Rattle.std.proofs.Common.{◌≡◌, ℕ, List, Result, Ok, Bool, sym, ap, subst, ◌∙◌}
+use Rattle.theory.specs.Prelude.{prelude}
+use Rattle.theory.specs.Signatures.{Signature}
+use Rattle.surface_syntax.specs.Trees.{Decl}
+use Rattle.program_texts.specs.Texts.{Answer}
+use Rattle.program_texts.specs.declared.status.Status.{Status}
+use Rattle.program_texts.specs.declared.words.Command.{Command}
+use Rattle.elim_program.specs.Blocks.{Makes}
+use Rattle.elim_program.specs.Outputs.{declarations, text_block}
+use Rattle.elim_program.specs.Runs.{Written}
+use Rattle.elim_program.specs.Works.{worked, worked_block}
+use Rattle.elim_program.specs.declared.block.Block as code
+use Rattle.elim_program.specs.declared.counts.Counts.{Counts}
+
+pub written-in-new : (command : Command) (ds : List Decl) (answer : Answer) (fuel : ℕ) (S : Signature) (result : Result Bool Status) (text : List ℕ) → answer ≡ Ok ds → fuel ≡ command.fuel → S ≡ prelude command.k → Written result (declarations fuel S ds) text → Written result (text_block command answer) text
+written-in-new command ds answer fuel S result text e f s w =
+    subst (λ a. Written result (text_block command a) text) (sym e)
+    (subst (λ n. Written result (declarations n (prelude command.k) ds) text) f
+    (subst (λ T. Written result (declarations fuel T ds) text) s w))
+
+pub counted-in-new : (n fuel given : ℕ) (S T : Signature) (ds : List Decl) (start counts : Counts) (result : Result code.Block Status) → fuel ≡ given → S ≡ T → Ok counts ≡ worked fuel S ds start → Makes result (worked_block n (Ok counts)) → Makes result (worked_block n (worked given T ds start))
+counted-in-new n fuel given S T ds start counts result f s counted m =
+    subst (λ r. Makes result (worked_block n r)) (counted ∙ (ap (λ x. worked x S ds start) f ∙ ap (λ U. worked given U ds start) s)) m

@@ -1,0 +1,8 @@
+use Rattle.std.proofs.Common.{rules, ◌≡◌, [], arith}
+use Rattle.term_pool.proofs.Pooling.{pool-none}
+use Rattle.term_pool.proofs.pool.Pool.empty.Goals as goal
+
+pub invariant_of-result : goal.invariant_of-result
+invariant_of-result c =
+    let nodes : c.new.result.keys ≡ [] = search rules in
+    rw (nodes, c.new-2.ensures.items) (pool-none 50000000 (omega arith))
