@@ -1,0 +1,9 @@
+pub mod CodeFamilies
+pub mod Computing
+pub mod Entries
+mod Examples
+pub mod PlainShapes
+pub mod ScopedComparisons
+pub mod ScopedDecisions
+pub mod SmallTerms
+pub mod TooHigh
