@@ -32,15 +32,17 @@ use Rattle.case_below_gen.proofs.Functions.Binds.{none, one}
 use Rattle.case_below_gen.proofs.Hypotheses.{length-hypotheses}
 use Rattle.tele_eq.proofs.Growing.{append-none}
 use Rattle.generators.proofs.noconf_gen.CaseComputing.{IsCaseAt, case-computes, shapes-length}
-use Rattle.decide_eq.specs.Comparisons.{members_equal, confusion, different, compared}
+use Rattle.decide_eq.specs.Comparisons.{members_equal, confusion, different, congruence, compared}
 use Rattle.decide_eq.specs.DecisionEntries.{member_of, branch, analysis_motive, hypotheses_over, method, decision_motive, eliminated, decided_family}
-use Rattle.decide_eq.specs.DecisionLaws.{HasDecision, AreDecided, decision_at, claim_at, DifferentAreRefuted}
+use Rattle.decide_eq.specs.DecisionLaws.{HasDecision, AreDecided, decision_at, claim_at, DifferentAreRefuted, AreProved, first_terms, unfolded, hypotheses_at, EqualAreProved}
 use Rattle.decide_eq.specs.PlainFamilies.{Known}
 use Rattle.decide_eq.specs.Statements.{whole_type, deciding_from, deciding_parameter, decisions_over}
 use Rattle.decide_eq.specs.declared.decided_family.DecidedFamily.{DecidedFamily}
 use Rattle.decide_eq.specs.declared.members.Member.{Member}
 use Rattle.decide_eq.specs.declared.members.Members.{Members}
-use Rattle.decide_eq.proofs.PlainShapes.{plain-indices}
+use Rattle.decide_eq.proofs.PlainShapes.{at-family, plain-shape, passed, plain-indices}
+use Rattle.decide_eq.proofs.Proving.{AreThere, there-in, first-order-at, proofs-counted, proved-along}
+use Rattle.decide_eq.proofs.Targets.{target-there}
 
 -- ---- binders
 
@@ -88,6 +90,14 @@ method-at s method number zero (d ∷ cs) c at =
     let here : number ≡ number + 0 = omega arith in ap₂ (λ k x. Some (inst s (method k x))) here (some_is at)
 method-at s method number (suc i) (d ∷ cs) c at =
     let here : number + 1 + i ≡ number + suc i = omega arith in method-at s method (number + 1) i cs c at ∙ ap (λ k. Some (inst s (method k c))) here
+
+-- a symbol at the parameters ps and at a run of variables
+symbol-in : {ps : List Term} (p : ℕ) (terms : List Term) (symbol : Term) (depth start count : ℕ) (us : List Term) → inst (fill no_variable terms) symbol ≡ symbol → map (inst (fill no_variable terms)) (run depth 0 p) ≡ ps
+    → map (inst (fill no_variable terms)) (run depth start count) ≡ us → inst (fill no_variable terms) (applied (applied symbol (run depth 0 p)) (run depth start count)) ≡ applied symbol (ps ++ us)
+symbol-in {ps} p terms symbol depth start count us closed parameters there =
+    let q = fill no_variable terms in
+    inst-applied q (applied symbol (run depth 0 p)) (run depth start count)
+    ∙ (ap₂ applied (inst-applied q symbol (run depth 0 p) ∙ ap₂ applied closed parameters) there ∙ sym (applied-append symbol ps us))
 
 -- ---- the decision at two constructors
 
@@ -351,33 +361,33 @@ module _ (S : Signature) (n : ℕ) (f : Family) (into : ℕ) (known : Known) (an
   every_deep : whole ≡ length every
   every_deep = let k = length-append all vs in let g = all_deep in let q = vs_counted in omega arith
 
-  claim_parameters : map (inst w) (run whole 0 p) ≡ ps
-  claim_parameters =
-      run-filled no_variable every [] ps (((ds ++ x ∷ []) ++ further) ++ vs) whole 0 p
-      (ap (λ zs. zs ++ vs) all_parts ∙ append_assoc ps ((ds ++ x ∷ []) ++ further) vs) every_deep refl (sym at.parameters)
+  every_parts : every ≡ ps ++ (((ds ++ x ∷ []) ++ further) ++ vs)
+  every_parts = ap (λ zs. zs ++ vs) all_parts ∙ append_assoc ps ((ds ++ x ∷ []) ++ further) vs
 
-  left_arguments : map (inst w) (run whole inside a) ≡ us
-  left_arguments =
-      run-filled no_variable every args us ((hs ++ y ∷ []) ++ vs) whole inside a
-      (append_assoc args further vs ∙ ap (λ zs. args ++ zs) (append_assoc us (hs ++ y ∷ []) vs)) every_deep deep (sym us_counted)
+  further_parts : every ≡ args ++ (us ++ ((hs ++ y ∷ []) ++ vs))
+  further_parts = append_assoc args further vs ∙ ap (λ zs. args ++ zs) (append_assoc us (hs ++ y ∷ []) vs)
 
-  right_arguments : map (inst w) (run whole under b) ≡ vs
-  right_arguments =
-      run-filled no_variable every all vs [] whole under b (ap (λ zs. all ++ zs) (sym (append-none vs))) every_deep all_deep (sym vs_counted)
-
-  symbol_there : (symbol : Term) (start count : ℕ) (terms : List Term) → inst w symbol ≡ symbol → map (inst w) (run whole start count) ≡ terms
-      → inst w (applied (applied symbol (run whole 0 p)) (run whole start count)) ≡ applied symbol (ps ++ terms)
-  symbol_there symbol start count terms closed there =
-      inst-applied w (applied symbol (run whole 0 p)) (run whole start count)
-      ∙ (ap₂ applied (inst-applied w symbol (run whole 0 p) ∙ ap₂ applied closed claim_parameters) there ∙ sym (applied-append symbol ps terms))
+  -- the claim, where more terms may follow
+  claim-in : (terms rest : List Term) (deepest : ℕ) → terms ≡ every ++ rest → deepest ≡ length terms → inst (fill no_variable terms) (members_equal d m deepest) ≡ claim_at n l i j ps us vs
+  claim-in terms rest deepest is reached =
+      let q = fill no_variable terms in
+      let parameters : map (inst q) (run deepest 0 p) ≡ ps =
+      run-filled no_variable terms [] ps ((((ds ++ x ∷ []) ++ further) ++ vs) ++ rest) deepest 0 p
+      (is ∙ (ap (λ zs. zs ++ rest) every_parts ∙ append_assoc ps (((ds ++ x ∷ []) ++ further) ++ vs) rest)) reached refl (sym at.parameters) in
+      let lefts : map (inst q) (run deepest inside a) ≡ us =
+      run-filled no_variable terms args us (((hs ++ y ∷ []) ++ vs) ++ rest) deepest inside a
+      (is
+      ∙ (ap (λ zs. zs ++ rest) further_parts
+      ∙ (append_assoc args (us ++ ((hs ++ y ∷ []) ++ vs)) rest ∙ ap (λ zs. args ++ zs) (append_assoc us ((hs ++ y ∷ []) ++ vs) rest)))) reached deep (sym us_counted) in
+      let rights : map (inst q) (run deepest under b) ≡ vs =
+      run-filled no_variable terms all vs rest deepest under b (is ∙ append_assoc all vs rest) reached all_deep (sym vs_counted) in
+      ap₂ App
+      (ap₂ App (ap (App (Fam (equality l))) (symbol-in p terms (Fam n) deepest 0 0 [] refl parameters refl ∙ ap (applied (Fam n)) (append-none ps)))
+      (symbol-in p terms (Con n i) deepest inside a us refl parameters lefts))
+      (symbol-in p terms (Con n j) deepest under b vs refl parameters rights)
 
   claim_there : inst w (members_equal d m whole) ≡ claim_at n l i j ps us vs
-  claim_there =
-      ap₂ App
-      (ap₂ App
-      (ap (App (inst w (Fam (equality l)))) (symbol_there (Fam n) 0 0 [] refl refl ∙ ap (applied (Fam n)) (append-none ps)))
-      (symbol_there (Con n i) inside a us refl left_arguments))
-      (symbol_there (Con n j) under b vs refl right_arguments)
+  claim_there = claim-in every [] whole (sym (append-none every)) every_deep
 
   abbrev refutation : Term
   refutation = inst w (Lam (members_equal d m whole) (confusion d confusions m (whole + 1)))
@@ -387,6 +397,34 @@ module _ (S : Signature) (n : ℕ) (f : Family) (into : ℕ) (known : Known) (an
       converts-trans
       (subst (λ z. Converts S (decision_at n decision i j ps ds qs us rs vs) (inst w (cond z (compared d confusions known m 0 h whole second second.arguments) (different d confusions m whole)))) test computes)
       (converts-from (ap (λ z. App (App (Con into 1) z) refutation) claim_there))
+
+  -- the terms at their levels
+
+  lefts_in : AreThere every (inside + 0) us
+  lefts_in = there-in every args us ((hs ++ y ∷ []) ++ vs) (inside + 0) further_parts (let g = deep in omega arith)
+
+  rights_in : AreThere every (under + 0) vs
+  rights_in = there-in every all vs [] (under + 0) (ap (λ zs. all ++ zs) (sym (append-none vs))) (let g = all_deep in omega arith)
+
+  hypotheses_in : AreThere every h hs
+  hypotheses_in =
+      there-in every (args ++ us) hs ((y ∷ []) ++ vs) h
+      (further_parts ∙ (ap (λ zs. args ++ (us ++ zs)) (append_assoc hs (y ∷ []) vs) ∙ sym (append_assoc args us (hs ++ ((y ∷ []) ++ vs)))))
+      (let k = length-append args us in let g = deep in let o = us_counted in omega arith)
+
+  decisions_in : AreThere every p ds
+  decisions_in =
+      there-in every ps ds ((x ∷ [] ++ further) ++ vs) p
+      (every_parts ∙ ap (λ zs. ps ++ zs) (ap (λ zs. zs ++ vs) (append_assoc ds (x ∷ []) further) ∙ append_assoc ds (x ∷ [] ++ further) vs)) (sym at.parameters)
+
+  unfolded-there : unfolded d confusions known shape ps ds x ≡ applied (Elim n l) (ps ++ motive ∷ methods)
+  unfolded-there =
+      methods-spine s (method d confusions known shape.constructors inside) 0 head shape.constructors
+      ∙ (ap (λ z. applied (App z motive) methods) (inst-applied s (Elim n l) (run inside 0 p) ∙ ap (applied (Elim n l)) parameters_there)
+      ∙ sym (applied-append (Elim n l) ps (motive ∷ methods)))
+
+  same_hypotheses : hs ≡ hypotheses_at d confusions known shape ps ds x c.arguments us
+  same_hypotheses = ap (λ R. hypotheses (fill no_variable ps) R c.arguments us) (sym unfolded-there)
 
 -- ---- the law
 
@@ -402,3 +440,41 @@ different-are-refuted S n f into known analysis confusions decision has i c j e 
   refutation S n f into known analysis confusions decision has i c j e ps ds qs us rs vs at,
   apart-refuted S n f into known analysis confusions decision has i c j e ps ds qs us rs vs at (another j i (λ same. apart (sym same))),
 )
+
+itself : (number : ℕ) → (number == number) ≡ true
+itself number = grind (arith, nat_tests)
+
+pub equal-are-proved : EqualAreProved
+equal-are-proved S n f into known analysis confusions decision has i c ps ds qs us rs vs es at shown =
+    let shape = family_shape n f in
+    let d = decided_family analysis n shape into in
+    let first = constructor_shape n f c in
+    let p = length f.parameters in
+    let l = f.level in
+    let a = length first.arguments in
+    let x = applied (Con n i) (qs ++ us) in
+    let y = applied (Con n i) (rs ++ vs) in
+    let start = p + p + 1 in
+    let second = start + a + recursive_count first.arguments + 1 in
+    let both : Members = record { left = member_of i start first; right = member_of i second first } in
+    let given = hs S n f into known analysis confusions decision has i c i c ps ds qs us rs vs at in
+    let terms = every S n f into known analysis confusions decision has i c i c ps ds qs us rs vs at in
+    let same_given : given ≡ hypotheses_at d confusions known shape ps ds x c.arguments us = same_hypotheses S n f into known analysis confusions decision has i c i c ps ds qs us rs vs at in
+    let shown_given : AreProved S into known p ds 0 first.arguments us vs given es = subst (λ z. AreProved S into known p ds 0 first.arguments us vs z es) (sym same_given) shown in
+    let reached = every_deep S n f into known analysis confusions decision has i c i c ps ds qs us rs vs at in
+    let order = first-order-at S known l p 0 shape.constructors i first (passed S into known shape (plain-shape S n into known f (at-family S n f has.family) has.plain)).arguments
+    (first_there S n f into known analysis confusions decision has i c i c ps ds qs us rs vs at) in
+    let along = proved-along S d confusions known both first l (target-there S n into known f has.family has.plain) ds at.decisions terms 0 (start + a) (second + a) first.arguments us vs given es reached
+    (lefts_in S n f into known analysis confusions decision has i c i c ps ds qs us rs vs at) (rights_in S n f into known analysis confusions decision has i c i c ps ds qs us rs vs at)
+    (hypotheses_in S n f into known analysis confusions decision has i c i c ps ds qs us rs vs at) (decisions_in S n f into known analysis confusions decision has i c i c ps ds qs us rs vs at)
+    (counted S n f into known analysis confusions decision has i c i c ps ds qs us rs vs at) order shown_given in
+    let many : length es ≡ a = proofs-counted S into known p ds 0 first.arguments us vs given es shown_given in
+    let claim = claim-in S n f into known analysis confusions decision has i c i c ps ds qs us rs vs at (terms ++ es) es (second + a + length es) refl (omega (arith, reached, length-append terms es)) in
+    let same_depth : second + a + length es ≡ second + a + a = ap (λ k. second + a + k) many in
+    converts-trans
+    (subst (λ z. Converts S (decision_at n decision i i ps ds qs us rs vs) (inst (fill no_variable terms) (cond z (compared d confusions known both 0 (start + a) (second + a) first first.arguments) (different d confusions both (second + a))))) (itself i)
+    (computes S n f into known analysis confusions decision has i c i c ps ds qs us rs vs at))
+    (converts-trans along
+    (converts-from
+    (ap₂ (λ A B. App (App (Con into 0) A) B) claim
+    (ap₂ (λ z k. inst (fill no_variable (((first_terms ps ds x ++ (us ++ (z ++ y ∷ []))) ++ vs) ++ es)) (congruence d both k first)) same_given same_depth))))

@@ -33,20 +33,22 @@ plain-shape S n into known f at plain =
     subst (λ o. option_map_or (λ f. decidable S into known (family_shape n f)) o (Err NotPlainFamily) ≡ Ok tt) at plain
 
 -- the tests that were passed
-record Passed (S : Signature) (into : ℕ) (g : Shape) : Type 0 where
-  plain : is_plain g ≡ true
-  decision : is_decision_at S g.level into ≡ true
+pub record Passed (S : Signature) (into : ℕ) (known : Known) (g : Shape) : Type 0 where
+  pub plain : is_plain g ≡ true
+  pub decision : is_decision_at S g.level into ≡ true
+  pub arguments : offence S known g.level (length g.parameters) 0 g.constructors ≡ None
 
-passed : (S : Signature) (into : ℕ) (known : Known) (g : Shape) → decidable S into known g ≡ Ok tt → Passed S into g
-passed S into known g is = by (is_plain g) (is_decision_at S g.level into) refl refl is
+pub passed : (S : Signature) (into : ℕ) (known : Known) (g : Shape) → decidable S into known g ≡ Ok tt → Passed S into known g
+passed S into known g is = by (is_plain g) (is_decision_at S g.level into) (offence S known g.level (length g.parameters) 0 g.constructors) refl refl refl is
   where
-    answer : Bool → Bool → Result (Unit {0}) DecideStop
-    answer a b = cond a (cond b (unless_offended (offence S known g.level (length g.parameters) 0 g.constructors)) (Err NotDecision)) (Err NotPlainFamily)
+    answer : Bool → Bool → Option (ℕ × ℕ) → Result (Unit {0}) DecideStop
+    answer a b o = cond a (cond b (unless_offended o) (Err NotDecision)) (Err NotPlainFamily)
 
-    by : (a b : Bool) → is_plain g ≡ a → is_decision_at S g.level into ≡ b → answer a b ≡ Ok tt → Passed S into g
-    by true true e d h = record { plain = e; decision = d }
-    by true false e d h = absurd cc
-    by false b e d h = absurd cc
+    by : (a b : Bool) (o : Option (ℕ × ℕ)) → is_plain g ≡ a → is_decision_at S g.level into ≡ b → offence S known g.level (length g.parameters) 0 g.constructors ≡ o → answer a b o ≡ Ok tt → Passed S into known g
+    by true true None e d n h = record { plain = e; decision = d; arguments = n }
+    by true true (Some o) e d n h = absurd cc
+    by true false o e d n h = absurd cc
+    by false b o e d n h = absurd cc
 
 plain-low : (g : Shape) → is_plain g ≡ true → g.level + 2 ≤ top
 plain-low g plain =
