@@ -1,6 +1,5 @@
 -- The decision of equality computes at constructors.
-use Rattle.std.proofs.Common.{◌≡◌, ◌≢◌, ℕ, zero, suc, ◌+◌, ◌==◌, Bool, true, false, cond, List, [], ◌∷◌, ◌++◌, map, length, slice_get, Some, option_map, refl, ap, ap₂, sym, ◌∙◌, subst, append_assoc, arith}
-use Rattle.std.proofs.lemmas.Bool.Decides.{nat_tests}
+use Rattle.std.proofs.Common.{◌≡◌, ℕ, zero, suc, ◌+◌, ◌==◌, false, cond, List, [], ◌∷◌, ◌++◌, map, length, slice_get, Some, option_map, refl, ap, ap₂, sym, ◌∙◌, subst, append_assoc, arith}
 use Rattle.std.proofs.lemmas.List.{length-append, length-map}
 use Rattle.std.proofs.lemmas.Option.{slice_get-map, none-some}
 use Rattle.theory.specs.Terms.{Term}
@@ -32,9 +31,10 @@ use Rattle.case_below_gen.proofs.Functions.Binds.{none, one}
 use Rattle.case_below_gen.proofs.Hypotheses.{length-hypotheses}
 use Rattle.tele_eq.proofs.Growing.{append-none}
 use Rattle.generators.proofs.noconf_gen.CaseComputing.{IsCaseAt, case-computes, shapes-length}
+use Rattle.generators.proofs.noconf_gen.SameParts.{test-true, test-false}
 use Rattle.decide_eq.specs.Comparisons.{members_equal, confusion, different, congruence, compared}
 use Rattle.decide_eq.specs.DecisionEntries.{member_of, branch, analysis_motive, hypotheses_over, method, decision_motive, eliminated, decided_family}
-use Rattle.decide_eq.specs.DecisionLaws.{HasDecision, AreDecided, decision_at, claim_at, DifferentAreRefuted, AreProved, first_terms, unfolded, hypotheses_at, EqualAreProved}
+use Rattle.decide_eq.specs.DecisionLaws.{HasDecision, AreDecided, decision_at, claim_at, DecisionUnfolds, DifferentAreRefuted, AreProved, first_terms, unfolded, hypotheses_at, EqualAreProved}
 use Rattle.decide_eq.specs.PlainFamilies.{Known}
 use Rattle.decide_eq.specs.Statements.{whole_type, deciding_from, deciding_parameter, decisions_over}
 use Rattle.decide_eq.specs.declared.decided_family.DecidedFamily.{DecidedFamily}
@@ -99,6 +99,28 @@ symbol-in {ps} p terms symbol depth start count us closed parameters there =
     inst-applied q (applied symbol (run depth 0 p)) (run depth start count)
     ∙ (ap₂ applied (inst-applied q symbol (run depth 0 p) ∙ ap₂ applied closed parameters) there ∙ sym (applied-append symbol ps us))
 
+-- ---- the decision at the one term
+
+decision-depth : (ps ds : List Term) (x : Term) (p : ℕ) → length ps ≡ p → length ds ≡ p → p + p + 1 ≡ length (first_terms ps ds x)
+decision-depth ps ds x p e g = let a = length-append ps (ds ++ x ∷ []) in let b = length-append ds (x ∷ []) in omega arith
+
+pub decision-unfolds : DecisionUnfolds
+decision-unfolds S n f into known analysis confusions decision has ps ds x parameters decisions =
+    let shape = family_shape n f in
+    let d = decided_family analysis n shape into in
+    let p = length f.parameters in
+    let inside = p + p + 1 in
+    let terms = first_terms ps ds x in
+    let body = App (eliminated d confusions known shape.constructors inside) (variable inside (p + p)) in
+    let deep : inside ≡ length terms = decision-depth ps ds x p parameters decisions in
+    let there : inst (fill no_variable terms) (variable inside (p + p)) ≡ x =
+    variable-filled no_variable terms (ps ++ ds) x [] inside (p + p) (sym (append_assoc ps ds (x ∷ []))) deep (let a = length-append ps ds in omega arith) in
+    converts-trans
+    (constant-unfolds has.bodies has.entry
+    (binds-functions f.parameters (p + 1) (p + (p + 1)) _ body refl (binds-decisions d 0 p p 1 (Lam (whole_type d (p + p)) body) _ (one (whole_type d (p + p)) none)))
+    (omega arith) terms (omega (arith, deep)))
+    (converts-from (ap (App (unfolded d confusions known shape ps ds x)) there))
+
 -- ---- the decision at two constructors
 
 module _ (S : Signature) (n : ℕ) (f : Family) (into : ℕ) (known : Known) (analysis : ℕ) (confusions : ℕ → ℕ) (decision : ℕ) (has : HasDecision S n f into known analysis confusions decision)
@@ -161,11 +183,6 @@ module _ (S : Signature) (n : ℕ) (f : Family) (into : ℕ) (known : Known) (an
   parameters_there : map (inst s) (run inside 0 p) ≡ ps
   parameters_there = run-filled no_variable args [] ps (ds ++ x ∷ []) inside 0 p refl deep refl (sym at.parameters)
 
-  x_there : inst s (variable inside (p + p)) ≡ x
-  x_there =
-      variable-filled no_variable args (ps ++ ds) x [] inside (p + p) (sym (append_assoc ps ds (x ∷ []))) deep
-      (let a = length-append ps ds in let g = at.parameters in let h = at.decisions in omega arith)
-
   abbrev methods : List Term
   methods = methods_of s (method d confusions known shape.constructors inside) 0 shape.constructors
 
@@ -175,22 +192,16 @@ module _ (S : Signature) (n : ℕ) (f : Family) (into : ℕ) (known : Known) (an
   abbrev head : Term
   head = App (applied (Elim n l) (run inside 0 p)) (decision_motive d inside)
 
-  body_there : inst s (App (eliminated d confusions known shape.constructors inside) (variable inside (p + p))) ≡ App (applied (Elim n l) (ps ++ motive ∷ (methods ++ []))) x
-  body_there =
-      ap₂ App
-      (methods-spine s (method d confusions known shape.constructors inside) 0 head shape.constructors
-      ∙ (ap (λ h. applied (App h motive) methods) (inst-applied s (Elim n l) (run inside 0 p) ∙ ap (applied (Elim n l)) parameters_there)
-      ∙ (sym (applied-append (Elim n l) ps (motive ∷ methods)) ∙ ap (λ ms. applied (Elim n l) (ps ++ motive ∷ ms)) (sym (append-none methods)))))
-      x_there
+  unfolded-there : unfolded d confusions known shape ps ds x ≡ applied (Elim n l) (ps ++ motive ∷ methods)
+  unfolded-there =
+      methods-spine s (method d confusions known shape.constructors inside) 0 head shape.constructors
+      ∙ (ap (λ z. applied (App z motive) methods) (inst-applied s (Elim n l) (run inside 0 p) ∙ ap (applied (Elim n l)) parameters_there)
+      ∙ sym (applied-append (Elim n l) ps (motive ∷ methods)))
 
   unfolds : Converts S (applied (Const decision) args) (App (applied (Elim n l) (ps ++ motive ∷ (methods ++ []))) x)
   unfolds =
-      converts-trans
-      (constant-unfolds has.bodies has.entry
-      (binds-functions f.parameters (p + 1) (p + (p + 1)) _ (App (eliminated d confusions known shape.constructors inside) (variable inside (p + p))) refl
-      (binds-decisions d 0 p p 1 (Lam (whole_type d (p + p)) (App (eliminated d confusions known shape.constructors inside) (variable inside (p + p)))) _ (one (whole_type d (p + p)) none)))
-      (omega arith) args (let g = deep in omega arith))
-      (converts-from body_there)
+      converts-trans (decision-unfolds S n f into known analysis confusions decision has ps ds x at.parameters at.decisions)
+      (converts-from (ap (λ z. App z x) (unfolded-there ∙ ap (λ ms. applied (Elim n l) (ps ++ motive ∷ ms)) (sym (append-none methods)))))
 
   first_there : slice_get shape.constructors i ≡ Some first
   first_there = slice_get-map (constructor_shape n f) f.constructors i ∙ ap (option_map (constructor_shape n f)) at.first
@@ -417,32 +428,16 @@ module _ (S : Signature) (n : ℕ) (f : Family) (into : ℕ) (known : Known) (an
       there-in every ps ds ((x ∷ [] ++ further) ++ vs) p
       (every_parts ∙ ap (λ zs. ps ++ zs) (ap (λ zs. zs ++ vs) (append_assoc ds (x ∷ []) further) ∙ append_assoc ds (x ∷ [] ++ further) vs)) (sym at.parameters)
 
-  unfolded-there : unfolded d confusions known shape ps ds x ≡ applied (Elim n l) (ps ++ motive ∷ methods)
-  unfolded-there =
-      methods-spine s (method d confusions known shape.constructors inside) 0 head shape.constructors
-      ∙ (ap (λ z. applied (App z motive) methods) (inst-applied s (Elim n l) (run inside 0 p) ∙ ap (applied (Elim n l)) parameters_there)
-      ∙ sym (applied-append (Elim n l) ps (motive ∷ methods)))
-
   same_hypotheses : hs ≡ hypotheses_at d confusions known shape ps ds x c.arguments us
   same_hypotheses = ap (λ R. hypotheses (fill no_variable ps) R c.arguments us) (sym unfolded-there)
 
 -- ---- the law
 
-another : (at number : ℕ) → at ≢ number → (at == number) ≡ false
-another at number apart = go (at == number) refl
-  where
-    go : (b : Bool) → (at == number) ≡ b → b ≡ false
-    go true e = absurd (apart (grind (arith, nat_tests)))
-    go false e = refl
-
 pub different-are-refuted : DifferentAreRefuted
 different-are-refuted S n f into known analysis confusions decision has i c j e ps ds qs us rs vs at apart = (
   refutation S n f into known analysis confusions decision has i c j e ps ds qs us rs vs at,
-  apart-refuted S n f into known analysis confusions decision has i c j e ps ds qs us rs vs at (another j i (λ same. apart (sym same))),
+  apart-refuted S n f into known analysis confusions decision has i c j e ps ds qs us rs vs at (test-false j i (λ same. apart (sym same))),
 )
-
-itself : (number : ℕ) → (number == number) ≡ true
-itself number = grind (arith, nat_tests)
 
 pub equal-are-proved : EqualAreProved
 equal-are-proved S n f into known analysis confusions decision has i c ps ds qs us rs vs es at shown =
@@ -472,7 +467,7 @@ equal-are-proved S n f into known analysis confusions decision has i c ps ds qs 
     let claim = claim-in S n f into known analysis confusions decision has i c i c ps ds qs us rs vs at (terms ++ es) es (second + a + length es) refl (omega (arith, reached, length-append terms es)) in
     let same_depth : second + a + length es ≡ second + a + a = ap (λ k. second + a + k) many in
     converts-trans
-    (subst (λ z. Converts S (decision_at n decision i i ps ds qs us rs vs) (inst (fill no_variable terms) (cond z (compared d confusions known both 0 (start + a) (second + a) first first.arguments) (different d confusions both (second + a))))) (itself i)
+    (subst (λ z. Converts S (decision_at n decision i i ps ds qs us rs vs) (inst (fill no_variable terms) (cond z (compared d confusions known both 0 (start + a) (second + a) first first.arguments) (different d confusions both (second + a))))) (test-true i i refl)
     (computes S n f into known analysis confusions decision has i c i c ps ds qs us rs vs at))
     (converts-trans along
     (converts-from

@@ -29,6 +29,29 @@ pub record HasDecision (S : Signature) (n : ℕ) (f : Family) (into : ℕ) (know
   pub cases : HasBody S analysis (case_term n (family_shape n f) f.level)
   pub entry : HasBody S decision (decision_term (decided_family analysis n (family_shape n f) into) confusions known (family_shape n f))
 
+-- ---- the one term
+
+-- the level after the parameters, their decisions and the one term
+abbrev pub level_of_first : DecidedFamily → ℕ
+level_of_first d = d.params + d.params + 1
+
+-- the terms for the parameters, their decisions and the one term
+abbrev pub first_terms : (ps ds : List Term) (x : Term) → List Term
+first_terms ps ds x = ps ++ (ds ++ x ∷ [])
+
+-- D!elim.l ps M methods, as the decision at ps, ds and x unfolds to
+abbrev pub unfolded : DecidedFamily → (confusions : ℕ → ℕ) → Known → Shape → (ps ds : List Term) (x : Term) → Term
+unfolded d confusions known f ps ds x = inst (fill no_variable (first_terms ps ds x)) (eliminated d confusions known f.constructors (level_of_first d))
+
+-- a decision at the one term is the eliminator at it
+abbrev pub DecisionUnfolds : Type 0
+DecisionUnfolds =
+    (S : Signature) (n : ℕ) (f : Family) (into : ℕ) (known : Known) (analysis : ℕ) (confusions : ℕ → ℕ) (decision : ℕ) → HasDecision S n f into known analysis confusions decision
+    → (ps ds : List Term) (x : Term) → length ps ≡ length f.parameters → length ds ≡ length f.parameters
+    → Converts S (applied (Const decision) (first_terms ps ds x)) (App (unfolded (decided_family analysis n (family_shape n f) into) confusions known (family_shape n f) ps ds x) x)
+
+-- ---- different constructors
+
 -- Terms for it: parameters ps, their decisions ds, constructor i with parameters qs and arguments us, and constructor j with parameters
 -- rs and arguments vs.
 pub record AreDecided (f : Family) (i : ℕ) (c : Constructor) (j : ℕ) (e : Constructor) (ps ds qs us rs vs : List Term) : Type 0 where
@@ -82,18 +105,6 @@ AreProved S into known p ds at [] us vs hs es = es ≡ []
 AreProved S into known p ds at (a ∷ arguments) (u ∷ us) (v ∷ vs) hs (e ∷ es) =
     IsProved S into (App (decider known p ds at a u hs) v) e × AreProved S into known p ds (at + 1) arguments us vs (hypotheses_after a hs) es
 AreProved S into known p ds at (a ∷ arguments) us vs hs es = ⊥
-
--- the level after the parameters, their decisions and the one term
-abbrev pub level_of_first : DecidedFamily → ℕ
-level_of_first d = d.params + d.params + 1
-
--- the terms for the parameters, their decisions and the one term
-abbrev pub first_terms : (ps ds : List Term) (x : Term) → List Term
-first_terms ps ds x = ps ++ (ds ++ x ∷ [])
-
--- D!elim.l ps M methods, as the decision at ps, ds and x unfolds to
-abbrev pub unfolded : DecidedFamily → (confusions : ℕ → ℕ) → Known → Shape → (ps ds : List Term) (x : Term) → Term
-unfolded d confusions known f ps ds x = inst (fill no_variable (first_terms ps ds x)) (eliminated d confusions known f.constructors (level_of_first d))
 
 -- its hypotheses at the arguments us of a constructor: that at each recursive one
 abbrev pub hypotheses_at : DecidedFamily → (confusions : ℕ → ℕ) → Known → Shape → (ps ds : List Term) (x : Term) → List Argument → (us : List Term) → List Term

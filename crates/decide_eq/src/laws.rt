@@ -1,5 +1,10 @@
 //! A decision computes, in the words of the theory.
-ghost use Rattle.decide_eq.specs.DecisionLaws.{DifferentAreRefuted, EqualAreProved};
+ghost use Rattle.decide_eq.specs.DecisionLaws.{DecisionUnfolds, DifferentAreRefuted, EqualAreProved};
+
+/// A decision converts to the eliminator at the one term.
+pub fn decision_unfolds()
+    ensures { DecisionUnfolds }
+{}
 
 /// At different constructors a decision converts to the second constructor of the family into which equality is decided, at the equation
 /// of the two.
