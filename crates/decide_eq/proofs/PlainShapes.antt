@@ -18,16 +18,6 @@ use Rattle.decide_eq.specs.declared.stop.DecideStop.TheVariants.{NotPlainFamily,
 pub at-family : (S : Signature) (n : ℕ) (f : Family) → IsEntryAt S n (FamilyOf f) → family_at S n ≡ Some f
 at-family S n f at = ap (option_and_then family_in) at
 
-pub family-entry : (S : Signature) (n : ℕ) (f : Family) → family_at S n ≡ Some f → IsEntryAt S n (FamilyOf f)
-family-entry S n f found = by (slice_get S.entries n) refl found
-  where
-    by : (o : Option Entry) → slice_get S.entries n ≡ o → option_and_then family_in o ≡ Some f → IsEntryAt S n (FamilyOf f)
-    by (Some (FamilyOf g)) at h = let same : g ≡ f = cc in at ∙ ap (λ e. Some (FamilyOf e)) same
-    by (Some (EliminatorAt m i)) at h = absurd cc
-    by (Some (AxiomKAt i m)) at h = absurd cc
-    by (Some (Definition name type body)) at h = absurd cc
-    by None at h = absurd cc
-
 pub plain-shape : (S : Signature) (n into : ℕ) (known : Known) (f : Family) → family_at S n ≡ Some f → plain_family S n into known ≡ Ok tt → decidable S into known (family_shape n f) ≡ Ok tt
 plain-shape S n into known f at plain =
     subst (λ o. option_map_or (λ f. decidable S into known (family_shape n f)) o (Err NotPlainFamily) ≡ Ok tt) at plain

@@ -2,7 +2,8 @@ use Rattle.std.proofs.Common.{sym, ◌∙◌, arith}
 use Rattle.core_sig.specs.Meanings.{family_of}
 use Rattle.core_sig.proofs.ScopedDrafts.{answer-scoped}
 use Rattle.decide_eq.proofs.Entries.{entry-is, same-family}
-use Rattle.decide_eq.proofs.PlainShapes.{at-family, family-entry, plain-level}
+use Rattle.kernel_reduce.proofs.LookUps.{family-found}
+use Rattle.decide_eq.proofs.PlainShapes.{at-family, plain-level}
 use Rattle.decide_eq.proofs.ScopedDecisions.{decision-scoped}
 use Rattle.decide_eq.proofs.entry.decision_entry.Goals as goal
 
@@ -21,6 +22,6 @@ pub returns-clause-scoped : goal.returns-clause-scoped
 returns-clause-scoped c = λ T scoped first decided longer.
     let S = c.args.sig.now in
     let f = family_of c.in-Some.f.now in
-    let at = family-entry S c.args.fam f (sym c.in-Some.ensures.family) in
+    let at = family-found S c.args.fam f (sym c.in-Some.ensures.family) in
     answer-scoped T c.decision_of_family.result _ (returns-clause-answer c f at)
     (decision-scoped S T c.args.name.now c.args.fam f c.args.dec c.args.known.now scoped first at c.requires decided longer)
