@@ -7,7 +7,7 @@ import re
 from typing import NamedTuple, Optional, Union
 
 TOKEN = re.compile(r"[()\\{};]|[^\s()\\{};]+")
-TOP = 15
+TOP = 63
 
 
 class CoreError(Exception):

@@ -107,5 +107,5 @@ nat_aux_entry = refl
 name_of_case : generated_name (codes "Nat") (codes "!case.") 0 ≡ codes "Nat!case.0"
 name_of_case = refl
 
-name_of_all : generated_name (codes "Vec") (side_mark Second) 13 ≡ codes "Vec!all.13"
+name_of_all : generated_name (codes "Vec") (side_mark Second) 61 ≡ codes "Vec!all.61"
 name_of_all = refl

@@ -20,9 +20,9 @@ left_term_0_1 : left_term 0 1
     ≡ Lam (Sort 0) (Lam (Var 0) (Lam (Pi (Var 1) (Pi (App (App (App (Fam (equality 0)) (Var 2)) (Var 0)) (Var 1)) (Sort 1))) (Lam (App (App (Var 0) (Var 1)) (App (App (Con (equality 0) 0) (Var 2)) (Var 1))) (Lam (Var 3) (Lam (App (App (App (Fam (equality 0)) (Var 4)) (Var 0)) (Var 3)) (App (App (App (App (App (App (App (App (Elim (equality 0) 2) (Var 5)) (Var 1)) (Lam (Var 5) (Lam (App (App (App (Fam (equality 0)) (Var 6)) (Var 2)) (Var 0)) (Pi (Pi (Var 7) (Pi (App (App (App (Fam (equality 0)) (Var 8)) (Var 0)) (Var 2)) (Sort 1))) (Pi (App (App (Var 0) (Var 2)) (App (App (Con (equality 0) 0) (Var 8)) (Var 2))) (App (App (Var 1) (Var 5)) (Var 2))))))) (Lam (Pi (Var 5) (Pi (App (App (App (Fam (equality 0)) (Var 6)) (Var 0)) (Var 2)) (Sort 1))) (Lam (App (App (Var 0) (Var 2)) (App (App (Con (equality 0) 0) (Var 6)) (Var 2))) (Var 0)))) (Var 4)) (Var 0)) (Var 3)) (Var 2)))))))
 left_term_0_1 = refl
 
-left_term_14_13 : left_term 14 13
-    ≡ Lam (Sort 14) (Lam (Var 0) (Lam (Pi (Var 1) (Pi (App (App (App (Fam (equality 14)) (Var 2)) (Var 0)) (Var 1)) (Sort 13))) (Lam (App (App (Var 0) (Var 1)) (App (App (Con (equality 14) 0) (Var 2)) (Var 1))) (Lam (Var 3) (Lam (App (App (App (Fam (equality 14)) (Var 4)) (Var 0)) (Var 3)) (App (App (App (App (App (App (App (App (Elim (equality 14) 14) (Var 5)) (Var 1)) (Lam (Var 5) (Lam (App (App (App (Fam (equality 14)) (Var 6)) (Var 2)) (Var 0)) (Pi (Pi (Var 7) (Pi (App (App (App (Fam (equality 14)) (Var 8)) (Var 0)) (Var 2)) (Sort 13))) (Pi (App (App (Var 0) (Var 2)) (App (App (Con (equality 14) 0) (Var 8)) (Var 2))) (App (App (Var 1) (Var 5)) (Var 2))))))) (Lam (Pi (Var 5) (Pi (App (App (App (Fam (equality 14)) (Var 6)) (Var 0)) (Var 2)) (Sort 13))) (Lam (App (App (Var 0) (Var 2)) (App (App (Con (equality 14) 0) (Var 6)) (Var 2))) (Var 0)))) (Var 4)) (Var 0)) (Var 3)) (Var 2)))))))
-left_term_14_13 = refl
+left_term_62_61 : left_term 62 61
+    ≡ Lam (Sort 62) (Lam (Var 0) (Lam (Pi (Var 1) (Pi (App (App (App (Fam (equality 62)) (Var 2)) (Var 0)) (Var 1)) (Sort 61))) (Lam (App (App (Var 0) (Var 1)) (App (App (Con (equality 62) 0) (Var 2)) (Var 1))) (Lam (Var 3) (Lam (App (App (App (Fam (equality 62)) (Var 4)) (Var 0)) (Var 3)) (App (App (App (App (App (App (App (App (Elim (equality 62) 62) (Var 5)) (Var 1)) (Lam (Var 5) (Lam (App (App (App (Fam (equality 62)) (Var 6)) (Var 2)) (Var 0)) (Pi (Pi (Var 7) (Pi (App (App (App (Fam (equality 62)) (Var 8)) (Var 0)) (Var 2)) (Sort 61))) (Pi (App (App (Var 0) (Var 2)) (App (App (Con (equality 62) 0) (Var 8)) (Var 2))) (App (App (Var 1) (Var 5)) (Var 2))))))) (Lam (Pi (Var 5) (Pi (App (App (App (Fam (equality 62)) (Var 6)) (Var 0)) (Var 2)) (Sort 61))) (Lam (App (App (Var 0) (Var 2)) (App (App (Con (equality 62) 0) (Var 6)) (Var 2))) (Var 0)))) (Var 4)) (Var 0)) (Var 3)) (Var 2)))))))
+left_term_62_61 = refl
 
 -- a whole draft
 left_entry_12_3 : left_entry 50 12 3

@@ -3,6 +3,7 @@
 use native.Mathlib.Decide.{ℕ_discrete}
 use Rattle.std.proofs.Common.{◌≡◌, ℕ, false, true, Ok, Err, [], ◌∷◌, refl}
 use Rattle.theory.specs.Terms.{Term}
+use Rattle.theory.proofs.AfterPrelude.{after}
 use Rattle.core_terms.specs.Answers.{Spent}
 use Rattle.core_terms.specs.Patterns.{Pat, Bind, Wild, Con, vector}
 use Rattle.core_terms.specs.declared.stop.Stop.TheVariants.{Deep, Fuel}
@@ -13,13 +14,13 @@ use Rattle.case_trees.specs.Working.{work_pattern}
 use Rattle.case_trees.proofs.Samples.{sample, zero_term, up, pair_term, twice}
 
 abbrev zero_pattern : Pat
-zero_pattern = Con 46 0 (vector [])
+zero_pattern = Con (after 0) 0 (vector [])
 
 abbrev suc_pattern : Pat → Pat
-suc_pattern pat = Con 46 1 (vector (pat ∷ []))
+suc_pattern pat = Con (after 0) 1 (vector (pat ∷ []))
 
 abbrev pair_pattern : (first second : Pat) → Pat
-pair_pattern first second = Con 52 0 (vector (first ∷ second ∷ []))
+pair_pattern first second = Con (after 6) 0 (vector (first ∷ second ∷ []))
 
 -- a pair whose first part, twice zero, is the pair of up zero and up zero: it is 4 high then, and is 2 deep
 abbrev work : (room : ℕ) → Pat → ℕ → Spent Pair
@@ -27,9 +28,9 @@ work room pat left = work_pattern (sample false) room pat (pair_term (twice zero
 
 fits : work 6 (pair_pattern (pair_pattern Bind Wild) zero_pattern) 10
     ≡ answered
-    (Ok (pair.Builds 52 0 []
-    (pair.cons (pair.Builds 52 0 [] (pair.cons (pair.Binds (up zero_term)) (pair.cons (pair.Passes (up zero_term)) pair.nil)))
-    (pair.cons (pair.Builds 46 0 [] pair.nil) pair.nil))))
+    (Ok (pair.Builds (after 6) 0 []
+    (pair.cons (pair.Builds (after 6) 0 [] (pair.cons (pair.Binds (up zero_term)) (pair.cons (pair.Passes (up zero_term)) pair.nil)))
+    (pair.cons (pair.Builds (after 0) 0 [] pair.nil) pair.nil))))
     8
 unfolding native.Mathlib.Decide.ℕ_discrete sample
 fits = refl

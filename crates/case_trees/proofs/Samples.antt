@@ -5,84 +5,85 @@ use Rattle.theory.specs.Terms.Term.{Var, Sort, Pi, Lam, App, Const, Fam, Con, El
 use Rattle.theory.specs.Families.{Plain, Recursive, Family}
 use Rattle.theory.specs.Prelude.{prelude}
 use Rattle.theory.specs.Signatures.{Signature, FamilyOf, Definition}
+use Rattle.theory.proofs.AfterPrelude.{after}
 
 abbrev pub Nat : Term
-Nat = Fam 46
+Nat = Fam (after 0)
 
 abbrev pub zero_term : Term
-zero_term = Con 46 0
+zero_term = Con (after 0) 0
 
 abbrev pub suc_term : Term → Term
-suc_term n = App (Con 46 1) n
+suc_term n = App (Con (after 0) 1) n
 
 abbrev pub Vec : (A n : Term) → Term
-Vec A n = App (App (Fam 47) A) n
+Vec A n = App (App (Fam (after 1)) A) n
 
 abbrev pub nil_term : Term → Term
-nil_term A = App (Con 47 0) A
+nil_term A = App (Con (after 1) 0) A
 
 abbrev pub cons_term : (A n x xs : Term) → Term
-cons_term A n x xs = App (App (App (App (Con 47 1) A) n) x) xs
+cons_term A n x xs = App (App (App (App (Con (after 1) 1) A) n) x) xs
 
 abbrev pub Fin : Term → Term
-Fin n = App (Fam 48) n
+Fin n = App (Fam (after 2)) n
 
 abbrev pub fzero : Term → Term
-fzero n = App (Con 48 0) n
+fzero n = App (Con (after 2) 0) n
 
 abbrev pub fsuc : (n i : Term) → Term
-fsuc n i = App (App (Con 48 1) n) i
+fsuc n i = App (App (Con (after 2) 1) n) i
 
 abbrev pub Boolean : Term
-Boolean = Fam 49
+Boolean = Fam (after 3)
 
 abbrev pub true_term : Term
-true_term = Con 49 0
+true_term = Con (after 3) 0
 
 abbrev pub false_term : Term
-false_term = Con 49 1
+false_term = Con (after 3) 1
 
 -- \n. suc n
 abbrev pub up : Term → Term
-up n = App (Const 50) n
+up n = App (Const (after 4)) n
 
 abbrev pub U : Term → Term
-U n = App (Fam 51) n
+U n = App (Fam (after 5)) n
 
 abbrev pub u_term : Term → Term
-u_term k = App (Con 51 0) k
+u_term k = App (Con (after 5) 0) k
 
 abbrev pub v_term : Term
-v_term = Con 51 1
+v_term = Con (after 5) 1
 
 abbrev pub P : Term
-P = Fam 52
+P = Fam (after 6)
 
 abbrev pub pair_term : (a b : Term) → Term
-pair_term a b = App (App (Con 52 0) a) b
+pair_term a b = App (App (Con (after 6) 0) a) b
 
 -- \n. pair (up n) (up n)
 abbrev pub twice : Term → Term
-twice n = App (Const 53) n
+twice n = App (Const (after 7)) n
 
 abbrev pub W : Term → Term
-W p = App (Fam 54) p
+W p = App (Fam (after 8)) p
 
 abbrev pub w_term : Term
-w_term = Con 54 0
+w_term = Con (after 8) 0
 
 abbrev pub Q : Term → Term
-Q n = App (Fam 55) n
+Q n = App (Fam (after 9)) n
 
 abbrev pub Has : (n i : Term) → Term
-Has n i = App (App (Fam 56) n) i
+Has n i = App (App (Fam (after 10)) n) i
 
 abbrev pub there_term : (n i h : Term) → Term
-there_term n i h = App (App (App (Con 56 1) n) i) h
+there_term n i h = App (App (App (Con (after 10) 1) n) i) h
 
 -- the number before n, where there is one: Nat!elim.0 (\Nat. Nat) zero (\m. \h. m) n
 abbrev pub pred : Term → Term
-pred n = App (App (App (App (Elim 46 0) (Lam Nat Nat)) zero_term) (Lam Nat (Lam Nat (Var 1)))) n
+pred n = App (App (App (App (Elim (after 0) 0) (Lam Nat Nat)) zero_term) (Lam Nat (Lam Nat (Var 1)))) n
 
 abbrev pub nat_family : Family
 nat_family = record {
@@ -213,7 +214,7 @@ sample k = record {
       ∷ FamilyOf vec_family
       ∷ FamilyOf fin_family
       ∷ FamilyOf bool_family
-      ∷ Definition [] (Pi Nat Nat) (Lam Nat (App (Con 46 1) (Var 0)))
+      ∷ Definition [] (Pi Nat Nat) (Lam Nat (App (Con (after 0) 1) (Var 0)))
       ∷ FamilyOf u_family
       ∷ FamilyOf p_family
       ∷ Definition [] (Pi Nat P) (Lam Nat (pair_term (up (Var 0)) (up (Var 0))))

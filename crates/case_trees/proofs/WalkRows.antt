@@ -6,6 +6,7 @@ use Rattle.theory.specs.Terms.Term.{Var, Sort, Pi, App, Fam}
 use Rattle.theory.specs.Terms as term
 use Rattle.theory.specs.Signatures.{equation, reflexivity}
 use Rattle.theory.specs.Telescopes.{Telescope}
+use Rattle.theory.proofs.AfterPrelude.{after}
 use Rattle.core_terms.specs.Patterns as pattern
 use Rattle.core_terms.specs.Patterns.{Pat, Bind, Wild, Dot, Con, vector}
 use Rattle.core_terms.specs.Clauses as clause
@@ -17,10 +18,10 @@ use Rattle.unification.specs.declared.why.Why.TheVariants.{NeedsK, NotRigid}
 use Rattle.case_trees.proofs.Samples.{sample, Nat, zero_term, suc_term, Vec, cons_term, Fin, Boolean, Q, Has, fsuc, there_term, pred}
 
 abbrev zero_pattern : Pat
-zero_pattern = Con 46 0 (vector [])
+zero_pattern = Con (after 0) 0 (vector [])
 
 abbrev suc_pattern : Pat → Pat
-suc_pattern pat = Con 46 1 (vector (pat ∷ []))
+suc_pattern pat = Con (after 0) 1 (vector (pat ∷ []))
 
 abbrev refl_pattern : Pat
 refl_pattern = Con 1 0 (vector [])
@@ -32,7 +33,7 @@ walk context terms pats binds left =
 
 -- head A n (cons .n x xs)
 head : own_walk_of (sample false) (Sort 0 ∷ Nat ∷ Vec (Var 1) (suc_term (Var 0)) ∷ []) (Var 2) (Var 2 ∷ Var 1 ∷ Var 0 ∷ [])
-    (Is (vector (Bind ∷ Bind ∷ Con 47 1 (vector (Dot (Var 2) ∷ Bind ∷ Bind ∷ [])) ∷ [])) 4 (clause.Side (Var 1))) 0 10
+    (Is (vector (Bind ∷ Bind ∷ Con (after 1) 1 (vector (Dot (Var 2) ∷ Bind ∷ Bind ∷ [])) ∷ [])) 4 (clause.Side (Var 1))) 0 10
     ≡ answers
     (Ok (record {
       ctx = Sort 0 ∷ Nat ∷ Var 1 ∷ Vec (Var 2) (Var 1) ∷ [];
@@ -48,19 +49,19 @@ head = refl
 
 -- nil is no vector of length suc n
 impossible : walk (Sort 0 ∷ Nat ∷ Vec (Var 1) (suc_term (Var 0)) ∷ []) (Var 2 ∷ Var 1 ∷ Var 0 ∷ [])
-    (Bind ∷ Bind ∷ Con 47 0 (vector []) ∷ []) 2 10
+    (Bind ∷ Bind ∷ Con (after 1) 0 (vector []) ∷ []) 2 10
     ≡ answers (Err (Impossible 0 (Sort 0 ∷ Nat ∷ Vec (Var 1) (suc_term (Var 0)) ∷ []) zero_term (suc_term (Var 1)))) 10
 unfolding native.Mathlib.Decide.ℕ_discrete sample
 impossible = refl
 
 -- a clause that is dropped in its own walk: suc n against zero, ( ) against zero
 clashing : walk [] (zero_term ∷ []) (suc_pattern Bind ∷ []) 1 10
-    ≡ answers (Err (Impossible 0 [] (term.Con 46 1) (term.Con 46 0))) 10
+    ≡ answers (Err (Impossible 0 [] (term.Con (after 0) 1) (term.Con (after 0) 0))) 10
 unfolding native.Mathlib.Decide.ℕ_discrete sample
 clashing = refl
 
 clashing_absurd : walk [] (suc_term zero_term ∷ []) (pattern.Absurd ∷ []) 0 10
-    ≡ answers (Err (Impossible 0 [] (term.Con 46 1) (term.Con 46 1))) 10
+    ≡ answers (Err (Impossible 0 [] (term.Con (after 0) 1) (term.Con (after 0) 1))) 10
 unfolding native.Mathlib.Decide.ℕ_discrete sample
 clashing_absurd = refl
 
@@ -83,7 +84,7 @@ unfolding native.Mathlib.Decide.ℕ_discrete sample
 forced_last = refl
 
 -- ( ) where there are constructors: the first one is reported
-not_absurd : walk (Boolean ∷ []) (Var 0 ∷ []) (pattern.Absurd ∷ []) 0 10 ≡ answers (Err (NotAbsurd 0 49 0)) 10
+not_absurd : walk (Boolean ∷ []) (Var 0 ∷ []) (pattern.Absurd ∷ []) 0 10 ≡ answers (Err (NotAbsurd 0 (after 3) 0)) 10
 unfolding native.Mathlib.Decide.ℕ_discrete sample
 not_absurd = refl
 
@@ -132,7 +133,7 @@ passed_on = refl
 -- cons n x xs at a Vec of length pred m is stuck, for two units, and ( ) ends the walk. So n, x and xs have no term, and the dot that
 -- mentions x is not kept.
 unbound : walk (Nat ∷ Vec Nat (pred (Var 0)) ∷ Nat ∷ Nat ∷ Fam 0 ∷ []) (Var 4 ∷ Var 3 ∷ Var 2 ∷ Var 1 ∷ Var 0 ∷ [])
-    (Bind ∷ Con 47 1 (vector (Bind ∷ Bind ∷ Bind ∷ [])) ∷ Dot (Var 3) ∷ Dot (Var 1) ∷ pattern.Absurd ∷ []) 4 20
+    (Bind ∷ Con (after 1) 1 (vector (Bind ∷ Bind ∷ Bind ∷ [])) ∷ Dot (Var 3) ∷ Dot (Var 1) ∷ pattern.Absurd ∷ []) 4 20
     ≡ answers
     (Ok (record {
       ctx = Nat ∷ Vec Nat (pred (Var 0)) ∷ Nat ∷ Nat ∷ Fam 0 ∷ [];
@@ -153,18 +154,18 @@ unfolding native.Mathlib.Decide.ℕ_discrete sample
 stuck_wins = refl
 
 first_of_both : walk (Nat ∷ Q (Var 0) ∷ []) (Var 1 ∷ Var 0 ∷ []) (Bind ∷ pattern.Absurd ∷ []) 1 10
-    ≡ answers (Err (NotAbsurd 0 55 0)) 10
+    ≡ answers (Err (NotAbsurd 0 (after 9) 0)) 10
 unfolding native.Mathlib.Decide.ℕ_discrete sample
 first_of_both = refl
 
 -- the own problem alone is run: q0 k at Q zero
-own_problem : walk (Q zero_term ∷ []) (Var 0 ∷ []) (Con 55 0 (vector (Bind ∷ [])) ∷ []) 1 10
+own_problem : walk (Q zero_term ∷ []) (Var 0 ∷ []) (Con (after 9) 0 (vector (Bind ∷ [])) ∷ []) 1 10
     ≡ answers
     (Ok (record {
       ctx = [];
       goal = Nat;
-      subst = App (term.Con 55 0) zero_term ∷ [];
-      terms = App (term.Con 55 0) zero_term ∷ [];
+      subst = App (term.Con (after 9) 0) zero_term ∷ [];
+      terms = App (term.Con (after 9) 0) zero_term ∷ [];
       binds = zero_term ∷ [];
       dots = [];
     }))
@@ -205,7 +206,7 @@ forced_zero = refl
 
 -- n i (there .n .i h), at Has (suc n) (fsuc n i): the two types of the group are compared, for a unit each
 down : walk (Nat ∷ Fin (Var 0) ∷ Has (suc_term (Var 1)) (fsuc (Var 1) (Var 0)) ∷ []) (Var 2 ∷ Var 1 ∷ Var 0 ∷ [])
-    (Bind ∷ Bind ∷ Con 56 1 (vector (Dot (Var 2) ∷ Dot (Var 1) ∷ Bind ∷ [])) ∷ []) 3 10
+    (Bind ∷ Bind ∷ Con (after 10) 1 (vector (Dot (Var 2) ∷ Dot (Var 1) ∷ Bind ∷ [])) ∷ []) 3 10
     ≡ answers
     (Ok (record {
       ctx = Nat ∷ Fin (Var 0) ∷ Has (Var 1) (Var 0) ∷ [];

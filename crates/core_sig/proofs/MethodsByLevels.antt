@@ -8,9 +8,9 @@ use Rattle.theory.specs.Substitutions.{inst, ups, weaken, extend, fill}
 use Rattle.theory.specs.Scopes.{IsTelescopeOver, IsArgumentOver, AreArgumentsOver, IsConstructorOver}
 use Rattle.theory.specs.Telescopes.{Telescope, applied, arrows, variables, weaken_by, products, inst_telescope}
 use Rattle.theory.specs.Families as pure
-use Rattle.theory.specs.Families.{recursive_type, family_head, argument_types, index_types}
+use Rattle.theory.specs.Families.{recursive_type, family_head, argument_types}
 use Rattle.theory.specs.Eliminators as spec
-use Rattle.theory.specs.Eliminators.{hypothesis_types, method_types}
+use Rattle.theory.specs.Eliminators.{hypothesis_types}
 use Rattle.theory.proofs.Instances.{inst-var, ren-is_inst, ren-inst}
 use Rattle.theory.proofs.Renaming.{ren-weaken}
 use Rattle.core_terms.specs.declared.levels.Binder.TheVariants.{Product}

@@ -1,18 +1,15 @@
 -- Offenders against positivity, where arguments have the kinds of their types.
-use Rattle.std.proofs.Common.{◌≡◌, ℕ, ◌+◌, ◌<◌, Bool, true, false, ◌||◌, if◌then◌else◌, List, [], ◌∷◌, map, drop, length, get_or, Option, Some, None, IsNone, All, refl, ap, ap₂, sym, ◌∙◌, subst, add-one, ◌↔◌, true≢false}
+use Rattle.std.proofs.Common.{◌≡◌, ℕ, ◌+◌, Bool, true, false, ◌||◌, if◌then◌else◌, List, [], ◌∷◌, length, Option, Some, None, IsNone, All, refl, ap, ap₂, sym, ◌∙◌, ◌↔◌, true≢false}
 use Rattle.std.specs.Option.{option_map_or}
-use Rattle.std.proofs.Math.Seq.{drop-cons}
 use Rattle.std.specs.List.{list_any}
 use Rattle.std.proofs.lemmas.List.Elements.{All-head, All-tail, All-nil, All-cons}
 use Rattle.theory.specs.Terms.{Term}
 use Rattle.theory.specs.Families as pure
 use Rattle.theory.specs.Families.{Lacks, mentions, IsPositive, IsPositiveArgument, IsPositiveConstructor}
-use Rattle.core_terms.specs.Meanings.{tree_of}
-use Rattle.core_sig.specs.Kinds.{HasKind, HaveKinds}
-use Rattle.core_sig.specs.Meanings.{argument_with, argument_of, constructor_of}
+use Rattle.core_sig.specs.Kinds.{HasKind}
+use Rattle.core_sig.specs.Meanings.{argument_with}
 use Rattle.core_sig.specs.Offenders.{offends, offender_in, offender_among, first_offender}
 use Rattle.core_sig.specs.declared.family.ArgKind.TheVariants.{Recursive}
-use Rattle.core_sig.specs.declared.family.Arg.{Arg}
 use Rattle.core_sig.specs.declared.family.Constructor.{Constructor}
 use Rattle.core_sig.proofs.Arguments.{argument_with-recursive}
 

@@ -12,7 +12,7 @@ use Rattle.theory.specs.Families as pure
 use Rattle.theory.specs.Families.{family_head}
 use Rattle.theory.specs.Signatures.{Signature, Entry, FamilyOf, IsEntryAt}
 use Rattle.theory.specs.Prelude.{prelude, at_levels, empty_family, equality_family, unit_family, pair_family}
-use Rattle.theory.proofs.PreludeWellFormed.{unit_at, pair_at}
+use Rattle.theory.proofs.PreludeWellFormed.{equality_at, unit_at, pair_at}
 use Rattle.theory.specs.WellFormed.{pushed, first_entries}
 use Rattle.core_sig.specs.Kinds.{IsRecursiveType, HasKind, HaveKinds, HasKinds}
 use Rattle.core_terms.specs.Meanings.{tree_of}
@@ -74,7 +74,10 @@ pair_kinds n f con a b v w i j indices cons args is_a is_b = record {
     plain : (x : Arg) (u l at : ℕ) → x ≡ record { ty = Code.Var u; level = l; kind = Plain } → HasKind n (family_of f) at x.kind (tree_of x.ty)
     plain x u l at is = subst (λ (y : Arg). HasKind n (family_of f) at y.kind (tree_of y.ty)) (sym is) (variable_plain n (family_of f) at u)
 
--- the families Unit.i and Pair.i by their numbers
+-- the families Eq.i, Unit.i and Pair.i by their numbers
+pub equality_number : (k : Bool) (n i : ℕ) → i < top → suc i ≡ n → IsEntryAt (prelude k) n (FamilyOf (equality_family i))
+equality_number k n i lt at = subst (λ m. IsEntryAt (prelude k) m (FamilyOf (equality_family i))) at (equality_at top i lt)
+
 pub unit_number : (k : Bool) (n i : ℕ) → i < top → top + 1 + i ≡ n → IsEntryAt (prelude k) n (FamilyOf (unit_family i))
 unit_number k n i lt at = subst (λ m. IsEntryAt (prelude k) m (FamilyOf (unit_family i))) at (unit_at top i lt)
 

@@ -11,7 +11,7 @@ use Rattle.core_terms.specs.declared.stop.Stop.{Stop}
 use Rattle.core_sig.specs.Kinds.{HasKind, HaveKinds, HasKinds}
 use Rattle.core_sig.specs.Meanings.{argument_with, argument_of, constructor_of, family_of}
 use Rattle.core_sig.specs.Shapes as shape
-use Rattle.core_sig.specs.Shapes.{ArgumentShape, ConstructorShape, Shape, argument_shape, shape_of}
+use Rattle.core_sig.specs.Shapes.{ArgumentShape, Shape, argument_shape, shape_of}
 use Rattle.core_sig.specs.declared.family.ArgKind.{ArgKind}
 use Rattle.core_sig.specs.declared.family.ArgKind.TheVariants.{Plain, Recursive}
 use Rattle.core_sig.specs.declared.family.Arg.{Arg}

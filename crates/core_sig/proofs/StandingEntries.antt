@@ -1,5 +1,5 @@
 -- Ids that stand for entries go on to stand for them, in a store that has grown and with more entries.
-use Rattle.std.proofs.Common.{◌≡◌, ℕ, ◌+◌, ◌<◌, ◌≤◌, inl, inr, IsTrue, Option, None, Some, List, [], ◌∷◌, ◌++◌, map, take, length, get_or, slice_get, refl, ap, sym, ◌∙◌, subst, subst₂, arith}
+use Rattle.std.proofs.Common.{◌≡◌, ℕ, ◌+◌, ◌<◌, inl, inr, IsTrue, Option, None, Some, List, [], ◌∷◌, ◌++◌, map, take, length, get_or, slice_get, refl, ap, sym, ◌∙◌, subst, subst₂, arith}
 use Rattle.std.proofs.lemmas.List.{length-append, map-append}
 use Rattle.std.proofs.lemmas.Option.{slice_get_within}
 use Rattle.theory.specs.Terms.{Term}
@@ -107,9 +107,6 @@ module _ {I : Type 0} (old new : Held I) (extends : Extends old new) where
 
   pub where_low-stays : (o : Option I) (t : Term) → IsIdWhereLow old o t → IsIdWhereLow new o t
   where_low-stays = where_low-kept old new extends.lives extends.trees
-
-  pub constructors-stay : (n : ℕ) (e : Entry) (ids : List (ConstructorId I)) → AreConstructorIds old n e ids → AreConstructorIds new n e ids
-  constructors-stay = constructors-kept old new extends.lives extends.trees
 
   -- in a store that has grown the ids stand for the entries
   pub stands-stay : (entries : List Entry) (ids : EntryIds I) → Stands old entries ids → Stands new entries ids

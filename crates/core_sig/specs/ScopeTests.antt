@@ -1,5 +1,5 @@
 -- The test by which the numbers of a term have their entries.
-use Rattle.std.specs.Prelude.{ℕ, Bool, true, false, ◌&&◌, nat_lt, Option, Some, None, length, slice_get}
+use Rattle.std.specs.Prelude.{ℕ, Bool, true, false, ◌&&◌, nat_lt, Option, Some, length, slice_get}
 use Rattle.theory.specs.Terms.{Term, Pi, Lam, App, Let, Const, Fam, Con, Elim}
 use Rattle.theory.specs.Signatures.{Entry, FamilyOf, Definition, Signature}
 

@@ -3,7 +3,7 @@ ghost use Rattle.std.specs.List.{list_any};
 ghost use Rattle.std.specs.Option.{is_some, option_copied};
 ghost use Rattle.theory.specs.Signatures.{names_of};
 ghost use Rattle.theory.specs.WellFormed.{pushed, first_entries};
-ghost use Rattle.core_terms.specs.declared.stop.Stop.TheVariants.{Memory};
+ghost use Rattle.core_terms.specs.declared.stop.Stop.TheVariants.{Memory, PoolFull};
 ghost use Rattle.core_sig.specs.EntryIds.{CanStand, Stands};
 ghost use Rattle.core_sig.specs.Instances.{is_axiom_k, is_eliminator};
 ghost use Rattle.core_sig.specs.Kinds.{HasEntryKinds};
@@ -82,6 +82,33 @@ impl Signature {
         ensures kinds { IfSome result (λ e. HasEntryKinds at e.now) }
     {
         self.entries.as_slice().get(at as usize)
+    }
+
+    /// How many different parts of the terms of entries there may be. Takes no memory.
+    pub fn cap(&self) -> u32 {
+        self.terms.pool.cap()
+    }
+
+    /// Leaves room for so many different parts of the terms of entries. PoolFull exactly where those that are there have more. Takes no
+    /// memory.
+    pub fn limit(&mut self, cap: u32) -> Result<(), Stop>
+        requires { cap ≤ 50000000 }
+        ensures signature { self.new ≡ self.old }
+        ensures full { OnErr result (result ≡ Err PoolFull) }
+    {
+        self.terms.pool.limit(cap)
+    }
+
+    /// Forgets whether there was room.
+    pub fn forget_lack(&mut self)
+        ensures { self.new ≡ self.old }
+    {
+        self.terms.pool.forget_lack();
+    }
+
+    /// Whether there was no room for the terms of an entry, since this was last forgotten. Takes no memory.
+    pub fn lacked(&self) -> bool {
+        self.terms.pool.lacked()
     }
 
     /// The terms of the entries in a pool. Takes no memory.

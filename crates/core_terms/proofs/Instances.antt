@@ -18,7 +18,7 @@ use Rattle.core_terms.specs.declared.stop.Stop.{Stop}
 use Rattle.core_terms.specs.declared.stop.Stop.TheVariants.{Deep}
 use Rattle.core_terms.specs.declared.term.Term as code
 use Rattle.core_terms.proofs.Lists.{value-at}
-use Rattle.core_terms.specs.Instances.{under_binders, instance_of, instances_of, telescope_instance_of}
+use Rattle.core_terms.specs.Instances.{under_binders, instance_of, instance_with, instances_of, telescope_instance_of}
 
 pub weaken-lifted : (t : Term) (k : ℕ) → weaken (lift t k 0) ≡ lift t (k + 1) 0
 weaken-lifted t k = sym (lift-one (lift t k 0)) ∙ lift_merge t k 0 1 0 (omega arith) (omega arith)
@@ -42,16 +42,19 @@ ups-under k s (suc m) = go (nat_lt m k) (nat_lt (suc m) (k + 1)) (grind (arith, 
 pub inst_under : (k : ℕ) (s : ℕ → Term) (t : Term) → inst (ups (under_binders k s)) t ≡ inst (under_binders (k + 1) s) t
 inst_under k s t = inst-same t (ups-under k s)
 
+pub with-is_inst : (s : ℕ → Term) (values : List Term) (under : ℕ) (t : Term) → instance_with s values under t ≡ inst (under_binders under (fill s values)) t
+with-is_inst s values under (Pi a b) =
+    ap₂ Pi (with-is_inst s values under a) (with-is_inst s values (under + 1) b ∙ sym (inst_under under (fill s values) b))
+with-is_inst s values under (Lam a b) =
+    ap₂ Lam (with-is_inst s values under a) (with-is_inst s values (under + 1) b ∙ sym (inst_under under (fill s values) b))
+with-is_inst s values under (App f a) = ap₂ App (with-is_inst s values under f) (with-is_inst s values under a)
+with-is_inst s values under (Let a t b) =
+    ap₃ Let (with-is_inst s values under a) (with-is_inst s values under t) (with-is_inst s values (under + 1) b ∙ sym (inst_under under (fill s values) b))
+with-is_inst s values under (Var n) = refl
+with-is_inst s values under _ = refl
+
 pub instance-is_inst : (values : List Term) (under : ℕ) (t : Term) → instance_of values under t ≡ inst (under_binders under (fill no_variable values)) t
-instance-is_inst values under (Pi a b) =
-    ap₂ Pi (instance-is_inst values under a) (instance-is_inst values (under + 1) b ∙ sym (inst_under under (fill no_variable values) b))
-instance-is_inst values under (Lam a b) =
-    ap₂ Lam (instance-is_inst values under a) (instance-is_inst values (under + 1) b ∙ sym (inst_under under (fill no_variable values) b))
-instance-is_inst values under (App f a) = ap₂ App (instance-is_inst values under f) (instance-is_inst values under a)
-instance-is_inst values under (Let a t b) =
-    ap₃ Let (instance-is_inst values under a) (instance-is_inst values under t) (instance-is_inst values (under + 1) b ∙ sym (inst_under under (fill no_variable values) b))
-instance-is_inst values under (Var n) = refl
-instance-is_inst values under _ = refl
+instance-is_inst = with-is_inst no_variable
 
 fill-past : (s : ℕ → Term) (us : List Term) (v : ℕ) → length us ≤ v → fill s us v ≡ s (v - length us)
 fill-past s [] v h = ap s (omega arith)
@@ -133,8 +136,11 @@ pub ups-path : (k : ℕ) (s : ℕ → Term) → ups (under_binders k s) ≡ unde
 ups-path k s = fun_ext (ups-under k s)
 
 -- with no binder around it, an instance is the instance of the theory
+pub with-none : (s : ℕ → Term) (values : List Term) (t : Term) → instance_with s values 0 t ≡ inst (fill s values) t
+with-none s values t = with-is_inst s values 0 t ∙ ap (λ f. inst f t) (under-none-path (fill s values))
+
 pub instance-none : (values : List Term) (t : Term) → instance_of values 0 t ≡ inst (fill no_variable values) t
-instance-none values t = instance-is_inst values 0 t ∙ ap (λ s. inst s t) (under-none-path (fill no_variable values))
+instance-none = with-none no_variable
 
 telescope-is_inst : (values : List Term) (under : ℕ) (tele : Telescope)
     → telescope_instance_of values under tele ≡ inst_telescope (under_binders under (fill no_variable values)) tele
@@ -153,13 +159,16 @@ instances-are values (t ∷ terms) = ap₂ ◌∷◌ (instance-none values t) (i
 pub ruleset instance_laws = (instance-none, instances-are, telescope-none)
 
 -- an instance loses no height
-pub height-instance : (values : List Term) (under : ℕ) (t : Term) → height t ≤ height (instance_of values under t)
-height-instance values under (Var n) = height-positive (under_binders under (fill no_variable values) n)
-height-instance values under (Pi a b) = omega (arith, height-instance values under a, height-instance values (under + 1) b)
-height-instance values under (Lam a b) = omega (arith, height-instance values under a, height-instance values (under + 1) b)
-height-instance values under (App f a) = omega (arith, height-instance values under f, height-instance values under a)
-height-instance values under (Let a t b) =
-    omega (arith, height-instance values under a, height-instance values under t, height-instance values (under + 1) b)
-height-instance values under _ = omega arith
+pub height-with : (s : ℕ → Term) (values : List Term) (under : ℕ) (t : Term) → height t ≤ height (instance_with s values under t)
+height-with s values under (Var n) = height-positive (under_binders under (fill s values) n)
+height-with s values under (Pi a b) = omega (arith, height-with s values under a, height-with s values (under + 1) b)
+height-with s values under (Lam a b) = omega (arith, height-with s values under a, height-with s values (under + 1) b)
+height-with s values under (App f a) = omega (arith, height-with s values under f, height-with s values under a)
+height-with s values under (Let a t b) =
+    omega (arith, height-with s values under a, height-with s values under t, height-with s values (under + 1) b)
+height-with s values under _ = omega arith
 
-pub ruleset instance_heights = (height-instance)
+pub height-instance : (values : List Term) (under : ℕ) (t : Term) → height t ≤ height (instance_of values under t)
+height-instance = height-with no_variable
+
+pub ruleset instance_heights = (height-with)

@@ -10,20 +10,24 @@ use Rattle.theory.specs.Eliminators.{no_variable}
 unfoldable pub under_binders : ℕ → (ℕ → Term) → ℕ → Term
 under_binders under s n = cond (nat_lt n under) (Var n) (lift (s (n - under)) under 0)
 
--- a term with the last value for its nearest variable, and so on, under so many binders
+-- a term with the last value for its nearest variable, and so on, and what `s` gives for the variables beyond, under so many binders
+abbrev pub instance_with : (ℕ → Term) → List Term → ℕ → Term → Term
+instance_with s values under (Var n) = under_binders under (fill s values) n
+instance_with s values under (Sort i) = Sort i
+instance_with s values under (Pi a b) = Pi (instance_with s values under a) (instance_with s values (under + 1) b)
+instance_with s values under (Lam a b) = Lam (instance_with s values under a) (instance_with s values (under + 1) b)
+instance_with s values under (App f a) = App (instance_with s values under f) (instance_with s values under a)
+instance_with s values under (Let a t b) =
+    Let (instance_with s values under a) (instance_with s values under t) (instance_with s values (under + 1) b)
+instance_with s values under (Const c) = Const c
+instance_with s values under (Fam f) = Fam f
+instance_with s values under (Con f c) = Con f c
+instance_with s values under (Elim f m) = Elim f m
+instance_with s values under (AxiomK i m) = AxiomK i m
+
+-- a term with the last value for its nearest variable, and so on, under so many binders; a closed sort where there is no value
 abbrev pub instance_of : List Term → ℕ → Term → Term
-instance_of values under (Var n) = under_binders under (fill no_variable values) n
-instance_of values under (Sort i) = Sort i
-instance_of values under (Pi a b) = Pi (instance_of values under a) (instance_of values (under + 1) b)
-instance_of values under (Lam a b) = Lam (instance_of values under a) (instance_of values (under + 1) b)
-instance_of values under (App f a) = App (instance_of values under f) (instance_of values under a)
-instance_of values under (Let a t b) =
-    Let (instance_of values under a) (instance_of values under t) (instance_of values (under + 1) b)
-instance_of values under (Const c) = Const c
-instance_of values under (Fam f) = Fam f
-instance_of values under (Con f c) = Con f c
-instance_of values under (Elim f m) = Elim f m
-instance_of values under (AxiomK i m) = AxiomK i m
+instance_of values under t = instance_with no_variable values under t
 
 -- the instances of the terms of a list,
 abbrev pub instances_of : List Term → List Term → List Term

@@ -8,7 +8,7 @@ use crate::{Items, Stop};
 use std::alloc::Global;
 
 /// The greatest sort level: `Type TOP` is a term that has no type.
-pub const TOP: u8 = 15;
+pub const TOP: u8 = 63;
 
 /// The greatest height of a term that a call answers.
 pub const MAX_HEIGHT: u32 = 2000;

@@ -13,6 +13,7 @@ mod Examples
 pub mod FamiliesGoOn
 pub mod Feeds
 pub mod FreshNames
+pub mod LevelLists
 pub mod LevelsGoOn
 pub mod LineForms
 pub mod LineOutcomes

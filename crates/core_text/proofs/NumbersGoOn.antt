@@ -1,10 +1,9 @@
 -- A number that is read is one that may be there. Where a byte is wrong, the bytes before it begin the text of such a number.
-use Rattle.std.proofs.Common.{◌≡◌, ℕ, ◌-◌, ◌^◌, ◌<◌, ◌≤◌, Bool, true, false, List, [], ◌∷◌, ◌++◌, refl, append-nil}
+use Rattle.std.proofs.Common.{◌≡◌, ℕ, ◌-◌, ◌^◌, ◌<◌, ◌≤◌, Bool, true, false, List, [], ◌∷◌, ◌++◌, refl}
 use Rattle.std.specs.Prelude.{◌&&◌, nat_lt, if◌then◌else◌, Ok, Err, decimal}
 use Rattle.std.proofs.lemmas.Bool.{and_parts}
-use Rattle.core_text.specs.Reading.{Reading, wrong, is_digit, with_digit, index_from, read_index, is_left, read_level}
+use Rattle.core_text.specs.Reading.{Reading, wrong, is_digit, with_digit, index_from, read_index}
 use Rattle.core_text.proofs.Completions.{Meets, IsFront, meets-if, meets-wrong, meets-ensures}
-use Rattle.core_text.proofs.LevelsGoOn.{level-meets}
 use Rattle.core_text.proofs.Outcomes.{Ensures, ensures-if, lt-is}
 use Rattle.core_text.proofs.WordsRead.{index-read}
 
@@ -15,8 +14,6 @@ Any v r = Unit {0}
 both : {A : Type 0} (P Q : A → List ℕ → Type 0) (m : Reading A) → Ensures P m → Ensures Q m → Ensures (λ a r. P a r × Q a r) m
 both P Q (Ok p) h k = (h, k)
 both P Q (Err e) h k = tt
-
--- ---- numbers below n
 
 -- a number below n is read, whose text is at the front
 abbrev pub ReadsIndex : ℕ → List ℕ → ℕ → List ℕ → Type 0
@@ -55,18 +52,3 @@ pub index-meets : (n : ℕ) (rest : List ℕ) → 0 < n → n ≤ 2 ^ 64 → Mee
 index-meets n rest some le =
     meets-ensures Any (ReadsIndex n rest) (IsIndexText n) rest (read_index n rest)
     (both (λ v r. rest ≡ decimal v ++ r) (λ v r. v < n) (read_index n rest) (index-read n rest le) (index-small n rest)) (index-place n rest some)
-
--- ---- levels
-
--- the value that is read is a level that may be there, and its text is at the front
-abbrev pub ReadsLevel : List Bool → List ℕ → ℕ → List ℕ → Type 0
-ReadsLevel levels rest v r = (rest ≡ decimal v ++ r) × (is_left levels v ≡ true)
-
--- the text of a level that may be there
-abbrev pub IsLevelText : List Bool → List ℕ → Type 0
-IsLevelText levels text = (v : ℕ) × (text ≡ decimal v) × (is_left levels v ≡ true)
-
--- where the level v is left
-pub level-text-meets : (levels : List Bool) (v : ℕ) (rest : List ℕ) → is_left levels v ≡ true → Meets (ReadsLevel levels rest) (IsLevelText levels) rest (read_level levels rest)
-level-text-meets levels v rest left =
-    level-meets levels (IsLevelText levels) [] rest (λ w is. ([], (w, append-nil (decimal w), is))) rest refl (decimal v, (v, refl, left))

@@ -1,11 +1,10 @@
 -- Properties of a value that is read, if any is.
-use Rattle.std.proofs.Common.{◌≡◌, ℕ, zero, suc, ◌-◌, ◌<◌, ◌≤◌, Bool, true, false, List, [], ◌∷◌, length, drop, refl, arith}
+use Rattle.std.proofs.Common.{◌≡◌, ℕ, ◌-◌, ◌<◌, ◌≤◌, Bool, true, false, List, length, drop, refl, arith}
 use Rattle.std.specs.Prelude.{◌==◌, nat_le, nat_lt, if◌then◌else◌, Ok, Err}
-use Rattle.std.proofs.lemmas.Bool.{false≢true}
 use Rattle.std.proofs.lemmas.Bool.Decides.{nat_tests}
 use Rattle.std.proofs.lemmas.List.{length-drop}
 use Rattle.core_text.specs.Heads.{shared}
-use Rattle.core_text.specs.Reading.{Reading, and_then, after, past, is_left}
+use Rattle.core_text.specs.Reading.{Reading, and_then, after, past}
 use Rattle.core_text.specs.declared.halt.Halt.TheVariants.{Wrong}
 
 abbrev pub Ensures : {A : Type 0} → (A → List ℕ → Type 0) → Reading A → Type 0
@@ -38,9 +37,3 @@ lt-is a b e = grind (arith, nat_tests)
 
 pub le-is : (a b : ℕ) → nat_le a b ≡ true → a ≤ b
 le-is a b e = grind (arith, nat_tests)
-
--- a level that is left is one of the list
-pub left-below : (levels : List Bool) (v : ℕ) → is_left levels v ≡ true → v < length levels
-left-below [] v left = absurd (false≢true left)
-left-below (b ∷ levels) zero left = omega arith
-left-below (b ∷ levels) (suc v) left = let lt = left-below levels v left in omega arith

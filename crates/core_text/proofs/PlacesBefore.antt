@@ -23,7 +23,7 @@ use Rattle.core_text.proofs.Completions.{Meets, IsFront, meets-if, meets-word}
 use Rattle.core_text.proofs.FamiliesGoOn.{family-meets}
 use Rattle.core_text.proofs.FreshNames.{fresh, letters-for, fresh-name}
 use Rattle.core_text.proofs.LinesGoOn as spent
-use Rattle.core_text.proofs.LinesGoOn.{IsSpent, Goes, Read, line-front, definition-meets, eliminator-front, eliminator-meets, axiom-front, axiom-meets}
+use Rattle.core_text.proofs.LinesGoOn.{Goes, Read, line-front, definition-meets, eliminator-front, eliminator-meets, axiom-front, axiom-meets}
 use Rattle.core_text.proofs.Over.{over-sort}
 use Rattle.core_text.proofs.LinesRead.{notes-read}
 

@@ -1,11 +1,10 @@
 -- The names of the prelude are plain.
-use Rattle.std.proofs.Common.{◌≡◌, ℕ, zero, suc, ◌+◌, ◌/◌, ◌%◌, ◌<◌, ◌≤◌, Bool, true, false, cond, List, [], ◌∷◌, ◌++◌, map, flat_map, refl, sym, ap, ap₂, ◌∙◌, arith}
-use Rattle.std.specs.Prelude.{◌==◌, ◌||◌, nat_lt, if◌then◌else◌, Some, None, option_and_then, All, bytes_eq, codes, decimal}
+use Rattle.std.proofs.Common.{◌≡◌, ℕ, zero, suc, ◌+◌, ◌/◌, ◌%◌, ◌<◌, ◌≤◌, Bool, true, false, cond, List, [], ◌∷◌, ◌++◌, map, flat_map, refl, ap, ap₂, ◌∙◌, arith}
+use Rattle.std.specs.Prelude.{◌==◌, ◌||◌, nat_lt, if◌then◌else◌, Some, None, option_and_then, All, bytes_eq, codes}
 use Rattle.std.specs.List.{list_any, range_with_len}
 use Rattle.std.specs.Option.{is_some}
 use Rattle.std.specs.Str.{is_utf8, chars}
 use Rattle.std.proofs.lemmas.Bool.Decides.{nat_tests}
-use Rattle.std.proofs.lemmas.Fmt.{decimal_digit, decimal_step}
 use Rattle.std.proofs.lemmas.List.{length-append}
 use Rattle.std.proofs.lemmas.List.Elements.{All-nil, All-cons, All-append, All-head, All-tail}
 use Rattle.std.proofs.lemmas.List.Folds.{list_any-append}
@@ -18,24 +17,15 @@ use Rattle.theory.proofs.Lists.{both, only}
 use Rattle.core_text.specs.NameRuns.{are_name_chars}
 use Rattle.core_text.specs.ReadableNames.{IsReadableName, HasReadableFamily, PreludeHasReadableNames}
 use Rattle.core_text.specs.SymbolLookup.{number_at_end, before_end}
-use Rattle.core_text.proofs.SymbolForms.{number-at-end}
+use Rattle.core_text.proofs.SymbolForms.{level-is, level-at-end}
 use Rattle.core_text.proofs.WholeRuns.{chars-join, number-chars}
 
 -- ---- a word, a point and a level
 
-level-is : (i : ℕ) → i < 100 → level_text i ≡ decimal i
-level-is i small = by (nat_lt i 10) refl
-  where
-    by : (c : Bool) → nat_lt i 10 ≡ c → cond c ((48 + i) ∷ []) ((48 + i / 10) ∷ (48 + i % 10) ∷ []) ≡ decimal i
-    by true e = let one : i < 10 = grind (arith, nat_tests) in sym (decimal_digit i one)
-    by false e =
-        let two : 10 ≤ i = grind (arith, nat_tests) in
-        sym (decimal_step i two (omega arith) ∙ ap (λ ds. ds ++ (48 + i % 10) ∷ []) (decimal_digit (i / 10) (omega arith)))
-
 dotted-plain : (before : List ℕ) (i : ℕ) → i < top → are_name_chars (before ++ 46 ∷ []) ≡ true → bytes_eq ((before ++ 46 ∷ []) ++ level_text i) (codes "Type") ≡ false → bytes_eq ((before ++ 46 ∷ []) ++ level_text i) (codes "let") ≡ false → before_end (codes "!elim.") (before ++ 46 ∷ []) ≡ None → before_end (codes "!k.") (before ++ 46 ∷ []) ≡ None → IsReadableName ((before ++ 46 ∷ []) ++ level_text i)
 dotted-plain before i lt word no_sort no_let no_elim no_k =
     let text = level-is i (omega arith) in
-    let number : number_at_end ((before ++ 46 ∷ []) ++ level_text i) ≡ Some (before ++ 46 ∷ [], i) = ap (λ ds. number_at_end ((before ++ 46 ∷ []) ++ ds)) text ∙ number-at-end before 46 i refl (omega arith) in
+    let number : number_at_end ((before ++ 46 ∷ []) ++ level_text i) ≡ Some (before ++ 46 ∷ [], i) = level-at-end before 46 i refl (omega arith) in
     record {
       chars = chars-join (before ++ 46 ∷ []) (level_text i) word (ap are_name_chars text ∙ number-chars i (omega arith));
       some = omega (arith, length-append (before ++ 46 ∷ []) (level_text i), length-append before (46 ∷ []));

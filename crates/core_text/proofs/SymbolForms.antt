@@ -1,11 +1,12 @@
 -- The names of eliminators and of K are taken apart as they are put together.
 use Rattle.std.proofs.Common.{◌≡◌, ℕ, suc, ◌+◌, ◌-◌, ◌/◌, ◌%◌, ◌<◌, ◌≤◌, Bool, true, false, List, [], ◌∷◌, ◌++◌, length, drop, take, refl, sym, ap, ap₂, ◌∙◌, append_assoc, arith}
-use Rattle.std.specs.Prelude.{not, ◌==◌, ◌&&◌, nat_le, nat_lt, if◌then◌else◌, Option, Some, None, slice_index, bytes_eq, decimal}
+use Rattle.std.specs.Prelude.{not, ◌==◌, ◌&&◌, nat_le, nat_lt, if◌then◌else◌, Option, Some, None, slice_index, bytes_eq, decimal, cond}
 use Rattle.std.proofs.lemmas.Bool.{and_from}
 use Rattle.std.proofs.lemmas.Bool.Decides.{nat_tests}
 use Rattle.std.proofs.lemmas.Fmt.{decimal_digit, decimal_step}
 use Rattle.std.proofs.lemmas.List.{length-append}
 use Rattle.std.proofs.lemmas.Slice.Eq.{bytes_eq-Decides}
+use Rattle.theory.specs.PreludeFamilies.{level_text}
 use Rattle.core_text.specs.Reading.{is_digit, with_digit}
 use Rattle.core_text.specs.SymbolLookup.{number_at_end, before_end}
 use Rattle.core_text.proofs.NumbersBack.{drop-word}
@@ -95,3 +96,18 @@ number-at-end before o m no_digit small = by (nat_lt m 10) refl
         let two : 10 ≤ m = grind (arith, nat_tests) in
         ap (λ ds. number_at_end ((before ++ o ∷ []) ++ ds)) (decimal_step m two (omega arith) ∙ ap (λ ds. ds ++ (48 + m % 10) ∷ []) (decimal_digit (m / 10) (omega arith)))
         ∙ two-digits (before ++ o ∷ []) m two small
+
+-- a level below 100 is written in decimal
+pub level-is : (i : ℕ) → i < 100 → level_text i ≡ decimal i
+level-is i small = by (nat_lt i 10) refl
+  where
+    by : (c : Bool) → nat_lt i 10 ≡ c → cond c ((48 + i) ∷ []) ((48 + i / 10) ∷ (48 + i % 10) ∷ []) ≡ decimal i
+    by true e = let one : i < 10 = grind (arith, nat_tests) in sym (decimal_digit i one)
+    by false e =
+        let two : 10 ≤ i = grind (arith, nat_tests) in
+        sym (decimal_step i two (omega arith) ∙ ap (λ ds. ds ++ (48 + i % 10) ∷ []) (decimal_digit (i / 10) (omega arith)))
+
+-- and is found at the end of a name
+pub level-at-end : (before : List ℕ) (o m : ℕ) → is_digit o ≡ false → m < 100 → number_at_end ((before ++ o ∷ []) ++ level_text m) ≡ Some (before ++ o ∷ [], m)
+level-at-end before o m no_digit small =
+    ap (λ ds. number_at_end ((before ++ o ∷ []) ++ ds)) (level-is m small) ∙ number-at-end before o m no_digit small

@@ -3,13 +3,13 @@ use Rattle.std.proofs.Common.{◌≡◌, ℕ, zero, suc, ◌+◌, ◌-◌, ◌<�
 use Rattle.std.specs.Prelude.{◌==◌, ◌&&◌, nat_le, nat_lt, if◌then◌else◌, Ok, Err, Option, Some, None, codes, bytes_eq}
 use Rattle.std.proofs.lemmas.Bool.{false≢true}
 use Rattle.std.proofs.lemmas.List.{length-drop}
-use Rattle.theory.specs.Terms.{Term, Var, Sort, Pi, Lam, App, Let, height}
+use Rattle.theory.specs.Terms.{Term, Var, Sort, Pi, Lam, App, Let, height, top}
 use Rattle.theory.specs.Signatures.{Signature}
 use Rattle.core_text.specs.NameRuns.{run_len}
 use Rattle.core_text.specs.Reading.{Reading, wrong, first, and_then, begins, is_digit, with_digit, index_from, read_index, read_level, level_from, one_digit, begins_level, is_left}
-use Rattle.core_text.specs.TermReading.{most, sort_levels, limited, closed_by, as_term, known, variable_at, sort_at, named, is_application, read_term, term_after, function_at, let_at, product_from, argument_of, after_argument, arguments_from, spine_from, after_first, enclosed_at}
+use Rattle.core_text.specs.TermReading.{most, limited, closed_by, as_term, known, variable_at, sort_at, named, is_application, read_term, term_after, function_at, let_at, product_from, argument_of, after_argument, arguments_from, spine_from, after_first, enclosed_at}
 use Rattle.core_text.specs.declared.halt.Halt.TheVariants.{Nested}
-use Rattle.core_text.proofs.Outcomes.{Ensures, ensures-then, ensures-if, ensures-after, lt-is, le-is, left-below}
+use Rattle.core_text.proofs.Outcomes.{Ensures, ensures-then, ensures-if, ensures-after, lt-is, le-is}
 use Rattle.core_text.proofs.Over.{IsTermOver, over-more, over-pi, over-lam, over-app, over-let}
 use Rattle.core_text.proofs.SymbolsOver.{IsSymbol}
 
@@ -80,9 +80,9 @@ variable-fits S own (suc n) bound rest le =
 
 sort-fits : (S : Signature) (own : Bool) (n bound : ℕ) (rest : List ℕ) → length rest ≤ bound → Ensures (Fits S own n bound) (sort_at rest)
 sort-fits S own n bound rest le =
-    ensures-after (Fits S own n bound) bound (codes " ") rest (λ r. as_term Sort (read_level sort_levels r)) le
-    (λ r within. as_term-fits S own n bound Sort (IsLevel sort_levels bound) (read_level sort_levels r)
-    (λ v e h. let lt = left-below sort_levels v h.0 in record { over = record { symbols = omega (arith, lt); free = omega arith }; low = omega arith; within = h.1 }) (read_level-within sort_levels bound r within))
+    ensures-after (Fits S own n bound) bound (codes " ") rest (λ r. as_term Sort (read_index (top + 1) r)) le
+    (λ r within. as_term-fits S own n bound Sort (Below (top + 1) bound) (read_index (top + 1) r)
+    (λ v e h. record { over = record { symbols = omega (arith, h.0); free = omega arith }; low = omega arith; within = h.1 }) (read_index-within (top + 1) bound r within))
 
 -- names are looked up as symbols over the signature
 abbrev pub AreSymbols : Signature → Bool → (List ℕ → Option Term) → Type 0

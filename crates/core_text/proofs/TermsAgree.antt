@@ -4,16 +4,16 @@ use Rattle.std.specs.Prelude.{◌==◌, nat_le, if◌then◌else◌, Ok, Err, Op
 use Rattle.std.proofs.lemmas.Bool.{false≢true}
 use Rattle.std.proofs.lemmas.Bool.Decides.{nat_tests}
 use Rattle.std.proofs.lemmas.List.{take-append-drop}
-use Rattle.theory.specs.Terms.{Term, Var, Sort, Pi, Lam, App, Let, height}
+use Rattle.theory.specs.Terms.{Term, Var, Sort, Pi, Lam, App, Let, height, top}
 use Rattle.core_text.specs.Heads.{shared}
 use Rattle.core_text.specs.NameRuns.{run_len}
-use Rattle.core_text.specs.Reading.{Reading, wrong, first, and_then, after, begins, read_index, read_level}
-use Rattle.core_text.specs.TermReading.{most, sort_levels, limited, closed_by, as_term, known, variable_at, sort_at, named, is_application, read_term, term_at, term_after, function_at, let_at, product_from, argument_of, after_argument, arguments_from, spine_from, after_first, enclosed_at}
+use Rattle.core_text.specs.Reading.{Reading, wrong, first, and_then, after, begins, read_index}
+use Rattle.core_text.specs.TermReading.{most, limited, closed_by, as_term, known, variable_at, sort_at, named, is_application, read_term, term_at, term_after, function_at, let_at, product_from, argument_of, after_argument, arguments_from, spine_from, after_first, enclosed_at}
 use Rattle.core_text.specs.declared.halt.Halt.TheVariants.{Memory, Nested, Wrong}
 use Rattle.core_text.proofs.Agreement.{Refused, by_character, by_name, Reread, Alike, StaysAt, StartsAt, refused-map, reread-within, stopped-within, alike-then}
 use Rattle.core_text.proofs.Characters.{Same, SameName, first-same, same-named}
 use Rattle.core_text.proofs.NamesAgree.{NameTells, goes_on, is_wrong, reread-named}
-use Rattle.core_text.proofs.NumbersAgree.{led-same, alike-index, alike-level, alike-as}
+use Rattle.core_text.proofs.NumbersAgree.{led-same, alike-index, alike-as}
 use Rattle.core_text.proofs.NumbersBack.{past-word, begins-word}
 use Rattle.core_text.proofs.RunSteps.{run_more}
 use Rattle.core_text.proofs.TermsBack.{some-char}
@@ -24,10 +24,10 @@ use Rattle.core_text.proofs.WordsRead.{word-is, first-is}
 -- ---- leaves
 
 alike-sort : Alike true sort_at
-alike-sort = alike-word true (codes " ") (λ r. as_term Sort (read_level sort_levels r)) (alike-as Sort (read_level sort_levels) (alike-level sort_levels))
+alike-sort = alike-word true (codes " ") (λ r. as_term Sort (read_index (top + 1) r)) (alike-as Sort (read_index (top + 1)) (alike-index (top + 1)))
 
 sort-starts : (r : List ℕ) → StartsAt r (sort_at r)
-sort-starts r = word-starts 32 [] (λ r. as_term Sort (read_level sort_levels r)) r (omega arith)
+sort-starts r = word-starts 32 [] (λ r. as_term Sort (read_index (top + 1) r)) r (omega arith)
 
 variable-reread : (n : ℕ) (rest : List ℕ) → (first rest == 37) ≡ true → Reread true (variable_at n) rest (variable_at n rest)
 variable-reread zero rest e = (alike-wrong true).reread rest

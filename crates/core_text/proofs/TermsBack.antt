@@ -5,7 +5,7 @@ use Rattle.std.specs.Str.{is_utf8, chars}
 use Rattle.std.proofs.lemmas.Bool.Decides.{nat_tests}
 use Rattle.std.proofs.lemmas.List.Elements.{All-head, All-tail, All-push}
 use Rattle.unicode_ident.proofs.Computing.{unicode_ident}
-use Rattle.theory.specs.Terms.{Term, Var, Sort, Pi, Lam, App, Let, Const, Fam, Con, Elim, AxiomK, free_of, height}
+use Rattle.theory.specs.Terms.{Term, Var, Sort, Pi, Lam, App, Let, Const, Fam, Con, Elim, AxiomK, free_of, height, top}
 use Rattle.theory.specs.Telescopes.{applied}
 use Rattle.theory.specs.Spines.{head_of, spine_of}
 use Rattle.theory.specs.Signatures.{Signature}
@@ -13,12 +13,12 @@ use Rattle.theory.proofs.Bounds.{applied-parts}
 use Rattle.theory.proofs.Spines.{applied-spine}
 use Rattle.core_text.specs.NameRuns.{width, are_name_chars, name_char_len, run_len}
 use Rattle.core_text.specs.ReadBack.{Stops, IsSpelled, AreSpelled, TermsAreReadBack}
-use Rattle.core_text.specs.Reading.{Reading, wrong, first, and_then, after, begins, is_left, read_index, read_level}
+use Rattle.core_text.specs.Reading.{Reading, wrong, first, and_then, after, begins, read_index}
 use Rattle.core_text.specs.SymbolNames.{name_at, constructor_name_at, eliminator_name, axiom_k_name}
-use Rattle.core_text.specs.TermReading.{most, sort_levels, limited, closed_by, as_term, known, sort_at, named, is_application, read_term, term_after, function_at, let_at, product_from, after_argument, arguments_from, spine_from, after_first, enclosed_at}
+use Rattle.core_text.specs.TermReading.{most, limited, closed_by, as_term, known, sort_at, named, is_application, read_term, term_after, function_at, let_at, product_from, after_argument, arguments_from, spine_from, after_first, enclosed_at}
 use Rattle.core_text.specs.TermText.{spelled, term_text, spaced}
 use Rattle.core_text.specs.declared.halt.Halt.TheVariants.{Nested}
-use Rattle.core_text.proofs.NumbersBack.{drop-word, begins-word, past-word, index-back, level-back}
+use Rattle.core_text.proofs.NumbersBack.{drop-word, begins-word, past-word, index-back}
 use Rattle.core_text.proofs.RunSteps.{run_more, run_end}
 use Rattle.core_text.proofs.SpineTexts.{spelled-alone, spelled-applied}
 use Rattle.core_text.proofs.TermSteps.{term_named}
@@ -96,31 +96,12 @@ symbol-back look name t room n rest is stops =
     ∙ (ap₂ (λ a b. if bytes_eq a (codes "Type") then sort_at b else known (look a) (name ++ rest) b) (take-word name rest) (drop-word name rest)
     ∙ ap₂ (λ c o. if c then sort_at rest else known o (name ++ rest) rest) is.no_sort is.found))
 
-sort-left : (i : ℕ) → i ≤ 15 → is_left sort_levels i ≡ true
-sort-left zero le = refl
-sort-left (suc zero) le = refl
-sort-left (suc (suc zero)) le = refl
-sort-left (suc (suc (suc zero))) le = refl
-sort-left (suc (suc (suc (suc zero)))) le = refl
-sort-left (suc (suc (suc (suc (suc zero))))) le = refl
-sort-left (suc (suc (suc (suc (suc (suc zero)))))) le = refl
-sort-left (suc (suc (suc (suc (suc (suc (suc zero))))))) le = refl
-sort-left (suc (suc (suc (suc (suc (suc (suc (suc zero)))))))) le = refl
-sort-left (suc (suc (suc (suc (suc (suc (suc (suc (suc zero))))))))) le = refl
-sort-left (suc (suc (suc (suc (suc (suc (suc (suc (suc (suc zero)))))))))) le = refl
-sort-left (suc (suc (suc (suc (suc (suc (suc (suc (suc (suc (suc zero))))))))))) le = refl
-sort-left (suc (suc (suc (suc (suc (suc (suc (suc (suc (suc (suc (suc zero)))))))))))) le = refl
-sort-left (suc (suc (suc (suc (suc (suc (suc (suc (suc (suc (suc (suc (suc zero))))))))))))) le = refl
-sort-left (suc (suc (suc (suc (suc (suc (suc (suc (suc (suc (suc (suc (suc (suc zero)))))))))))))) le = refl
-sort-left (suc (suc (suc (suc (suc (suc (suc (suc (suc (suc (suc (suc (suc (suc (suc zero))))))))))))))) le = refl
-sort-left (suc (suc (suc (suc (suc (suc (suc (suc (suc (suc (suc (suc (suc (suc (suc (suc i)))))))))))))))) le = absurd (omega arith)
-
-sort-back : (look : List ℕ → Option Term) (i room n : ℕ) (rest : List ℕ) → i ≤ 15 → Stops rest → read_term look (suc room) n (84 ∷ 121 ∷ 112 ∷ 101 ∷ 32 ∷ (decimal i ++ rest)) ≡ Ok (Sort i, rest)
+sort-back : (look : List ℕ → Option Term) (i room n : ℕ) (rest : List ℕ) → i ≤ top → Stops rest → read_term look (suc room) n (84 ∷ 121 ∷ 112 ∷ 101 ∷ 32 ∷ (decimal i ++ rest)) ≡ Ok (Sort i, rest)
 sort-back look i room n rest le stops =
     term_named look (suc room) n (84 ∷ 121 ∷ 112 ∷ 101 ∷ 32 ∷ (decimal i ++ rest)) (omega arith) refl refl
     ∙ (ap (λ k. named look k (84 ∷ 121 ∷ 112 ∷ 101 ∷ 32 ∷ (decimal i ++ rest))) (type-run (decimal i ++ rest))
-    ∙ (ap (λ m. after m (λ r. as_term Sort (read_level sort_levels r))) (past-word (codes " ") (decimal i ++ rest))
-    ∙ ap (as_term Sort) (level-back sort_levels i rest (omega arith) (sort-left i le) stops.digit)))
+    ∙ (ap (λ m. after m (λ r. as_term Sort (read_index (top + 1) r))) (past-word (codes " ") (decimal i ++ rest))
+    ∙ ap (as_term Sort) (index-back (top + 1) i rest (omega arith) (omega arith) stops.digit)))
 
 -- ---- the ends of forms
 
@@ -294,7 +275,7 @@ variable-form look room zero v text rest is lt fits stops = absurd (omega (arith
 variable-form look room (suc n) v text rest is lt fits stops =
     ap (read_term look (suc room) (suc n)) is ∙ (percent look room n (decimal v ++ rest) ∙ ap (as_term Var) (index-back (suc n) v rest lt fits stops.digit))
 
-pub sort-form : (look : List ℕ → Option Term) (room n i : ℕ) (text rest : List ℕ) → text ≡ 84 ∷ 121 ∷ 112 ∷ 101 ∷ 32 ∷ (decimal i ++ rest) → i ≤ 15 → Stops rest → read_term look (suc room) n text ≡ Ok (Sort i, rest)
+pub sort-form : (look : List ℕ → Option Term) (room n i : ℕ) (text rest : List ℕ) → text ≡ 84 ∷ 121 ∷ 112 ∷ 101 ∷ 32 ∷ (decimal i ++ rest) → i ≤ top → Stops rest → read_term look (suc room) n text ≡ Ok (Sort i, rest)
 sort-form look room n i text rest is le stops = ap (read_term look (suc room) n) is ∙ sort-back look i room n rest le stops
 
 application-form : (S : Signature) (look : List ℕ → Option Term) (room : ℕ) → ReadsBack S look room (read_term look room) → (f a : Term) (n : ℕ) (rest : List ℕ) → IsFit S look (suc room) n (App f a) → height (App f a) ≤ 2000 → read_term look (suc room) n (term_text S (App f a) ++ rest) ≡ Ok (App f a, rest)

@@ -2,16 +2,15 @@
 use Rattle.std.proofs.Common.{◌≡◌, ℕ, zero, suc, ◌+◌, ◌<◌, ◌≤◌, ◌^◌, Bool, true, false, List, [], ◌++◌, length, drop, take, refl, sym, ap, ◌∙◌, append_assoc, arith}
 use Rattle.std.specs.Prelude.{◌==◌, nat_le, if◌then◌else◌, Ok, Err, Option, Some, None, codes, decimal, bytes_eq}
 use Rattle.std.proofs.lemmas.List.{take-append-drop}
-use Rattle.theory.specs.Terms.{Term, Var, Sort, Pi, Lam, App, Let, height}
+use Rattle.theory.specs.Terms.{Term, Var, Sort, Pi, Lam, App, Let, height, top}
 use Rattle.theory.specs.Signatures.{Signature}
 use Rattle.core_text.specs.NameRuns.{run_len}
-use Rattle.core_text.specs.Reading.{Reading, wrong, first, and_then, begins, read_index, is_left, read_level}
-use Rattle.core_text.specs.TermReading.{most, sort_levels, limited, closed_by, as_term, known, variable_at, sort_at, named, is_application, read_term, term_after, function_at, let_at, product_from, argument_of, after_argument, arguments_from, spine_from, after_first, enclosed_at}
+use Rattle.core_text.specs.Reading.{Reading, wrong, first, and_then, begins, read_index}
+use Rattle.core_text.specs.TermReading.{most, limited, closed_by, as_term, known, variable_at, sort_at, named, is_application, read_term, term_after, function_at, let_at, product_from, argument_of, after_argument, arguments_from, spine_from, after_first, enclosed_at}
 use Rattle.core_text.specs.TermText.{spelled, term_text}
 use Rattle.core_text.specs.declared.halt.Halt.TheVariants.{Memory, Nested, Wrong}
 use Rattle.core_text.proofs.Completions.{Meets, IsFront, whole-front, front-less, begun-past, meets-if, meets-wrong, meets-deep, meets-then, meets-word}
-use Rattle.core_text.proofs.NumbersGoOn.{index-meets, level-text-meets}
-use Rattle.core_text.proofs.Outcomes.{left-below}
+use Rattle.core_text.proofs.NumbersGoOn.{index-meets}
 use Rattle.core_text.proofs.Over.{IsTermOver, over-sort, over-more, over-pi, over-lam, over-app, over-let}
 use Rattle.core_text.proofs.SymbolsRead.{same-bytes}
 use Rattle.core_text.proofs.SpineTexts.{spelled-alone}
@@ -39,10 +38,10 @@ as_term-meets T S own n text rest whole form Is (Err (Nested left)) at spells ov
 
 sort-meets : (T S : Signature) (own : Bool) (n : ℕ) (rest whole : List ℕ) → whole ≡ codes "Type" ++ rest → Meets (ReadsTerm T S own n whole) (IsText T S own n) whole (sort_at rest)
 sort-meets T S own n rest whole at =
-    meets-word (ReadsTerm T S own n whole) (IsText T S own n) (codes "Type") (codes " ") rest whole (λ r. as_term Sort (read_level sort_levels r)) at
+    meets-word (ReadsTerm T S own n whole) (IsText T S own n) (codes "Type") (codes " ") rest whole (λ r. as_term Sort (read_index (top + 1) r)) at
     (text-front T S own n (Sort 0) (codes "Type ") (decimal 0) (over-sort S own n) refl)
-    (λ r is. as_term-meets T S own n (codes "Type ") r whole Sort (λ v. is_left sort_levels v ≡ true) (read_level sort_levels r) (at ∙ ap (λ s. codes "Type" ++ s) is) (λ v. refl)
-    (λ v left. let lt = left-below sort_levels v left in record { symbols = omega arith; free = omega arith }) (level-text-meets sort_levels 0 r refl))
+    (λ r is. as_term-meets T S own n (codes "Type ") r whole Sort (λ v. v < top + 1) (read_index (top + 1) r) (at ∙ ap (λ s. codes "Type" ++ s) is) (λ v. refl)
+    (λ v lt. record { symbols = omega arith; free = omega arith }) (index-meets (top + 1) r (omega arith) (omega arith)))
 
 variable-meets : (T S : Signature) (own : Bool) (n : ℕ) (rest : List ℕ) → n ≤ 2 ^ 64 → (first rest == 37) ≡ true → Meets (ReadsTerm T S own n rest) (IsText T S own n) rest (variable_at n rest)
 variable-meets T S own zero rest le e = meets-wrong (ReadsTerm T S own zero rest) (IsText T S own zero) [] rest rest refl (no-text T S own zero)

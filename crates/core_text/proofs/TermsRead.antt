@@ -2,17 +2,17 @@
 use Rattle.std.proofs.Common.{◌≡◌, ℕ, zero, suc, ◌+◌, ◌≤◌, ◌^◌, true, false, List, [], ◌∷◌, ◌++◌, length, drop, take, refl, sym, ap, ◌∙◌, append_assoc, arith}
 use Rattle.std.specs.Prelude.{◌==◌, nat_le, if◌then◌else◌, Ok, Err, Option, Some, None, codes, decimal, bytes_eq}
 use Rattle.std.proofs.lemmas.List.{take-append-drop}
-use Rattle.theory.specs.Terms.{Term, Var, Sort, Pi, Lam, App, Let, Const, Fam, Con, Elim, AxiomK, height}
+use Rattle.theory.specs.Terms.{Term, Var, Sort, Pi, Lam, App, Let, Const, Fam, Con, Elim, AxiomK, height, top}
 use Rattle.theory.specs.Signatures.{Signature}
 use Rattle.core_text.specs.NameRuns.{run_len}
-use Rattle.core_text.specs.Reading.{Reading, wrong, first, and_then, begins, read_index, read_level}
-use Rattle.core_text.specs.TermReading.{most, sort_levels, limited, closed_by, as_term, known, variable_at, sort_at, named, is_application, read_term, term_after, function_at, let_at, product_from, argument_of, after_argument, arguments_from, spine_from, after_first, enclosed_at}
+use Rattle.core_text.specs.Reading.{Reading, wrong, first, and_then, begins, read_index}
+use Rattle.core_text.specs.TermReading.{most, limited, closed_by, as_term, known, variable_at, sort_at, named, is_application, read_term, term_after, function_at, let_at, product_from, argument_of, after_argument, arguments_from, spine_from, after_first, enclosed_at}
 use Rattle.core_text.specs.TermText.{spelled, term_text}
 use Rattle.core_text.specs.declared.halt.Halt.TheVariants.{Nested}
 use Rattle.core_text.proofs.Outcomes.{Ensures, ensures-then, ensures-if}
 use Rattle.core_text.proofs.SpineTexts.{spelled-alone}
 use Rattle.core_text.proofs.SymbolsRead.{IsWritten, same-bytes}
-use Rattle.core_text.proofs.WordsRead.{word-is, ensures-word, first-is, index-read, level-read}
+use Rattle.core_text.proofs.WordsRead.{word-is, ensures-word, first-is, index-read}
 
 -- the bytes are the text of the term and those after it
 abbrev pub Writes : Signature → List ℕ → Term → List ℕ → Type 0
@@ -30,11 +30,11 @@ as_term-writes T word rest form (Err e) text is = tt
 
 sort-writes : (T : Signature) (rest : List ℕ) → Ensures (Writes T (codes "Type" ++ rest)) (sort_at rest)
 sort-writes T rest =
-    ensures-word (Writes T (codes "Type" ++ rest)) (codes " ") rest (λ r. as_term Sort (read_level sort_levels r))
-    (λ r is. moved r is (as_term-writes T (codes "Type ") r Sort (read_level sort_levels r) (λ v. refl) (level-read sort_levels r)))
+    ensures-word (Writes T (codes "Type" ++ rest)) (codes " ") rest (λ r. as_term Sort (read_index (top + 1) r))
+    (λ r is. moved r is (as_term-writes T (codes "Type ") r Sort (read_index (top + 1) r) (λ v. refl) (index-read (top + 1) r (omega arith))))
   where
-    moved : (r : List ℕ) → rest ≡ codes " " ++ r → Ensures (Writes T (codes "Type " ++ r)) (as_term Sort (read_level sort_levels r)) → Ensures (Writes T (codes "Type" ++ rest)) (as_term Sort (read_level sort_levels r))
-    moved r is = by (as_term Sort (read_level sort_levels r))
+    moved : (r : List ℕ) → rest ≡ codes " " ++ r → Ensures (Writes T (codes "Type " ++ r)) (as_term Sort (read_index (top + 1) r)) → Ensures (Writes T (codes "Type" ++ rest)) (as_term Sort (read_index (top + 1) r))
+    moved r is = by (as_term Sort (read_index (top + 1) r))
       where
         by : (m : Reading Term) → Ensures (Writes T (codes "Type " ++ r)) m → Ensures (Writes T (codes "Type" ++ rest)) m
         by (Ok p) so = ap (λ s. codes "Type" ++ s) is ∙ so

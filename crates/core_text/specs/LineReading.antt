@@ -14,6 +14,8 @@ use Rattle.core_text.specs.Reading.{Reading, wrong, and_then, after, past, begin
 use Rattle.core_text.specs.SymbolLookup.{symbol, found_symbol}
 use Rattle.core_text.specs.TermReading.{most, read_term, term_after}
 use Rattle.core_text.specs.declared.halt.Halt.{Halt}
+use Rattle.core_text.specs.declared.instances.Choice.{Choice}
+use Rattle.core_text.specs.declared.instances.Choice.TheVariants.{Level, Identity}
 use Rattle.core_text.specs.declared.instances.Series.{Series}
 use Rattle.core_text.specs.declared.instances.Series.TheVariants.{Elim, AxiomK}
 
@@ -67,6 +69,11 @@ some_level_left S i = some_left (levels_left S (AxiomK i)) 0 top
 -- the numbers i for which it is not
 unfoldable pub identities_left : Signature → List Bool
 identities_left S = level_list (some_level_left S) 0 top
+
+-- the levels that may stand at a place
+abbrev pub levels_of : Signature → Choice → List Bool
+levels_of S (Level series) = levels_left S series
+levels_of S Identity = identities_left S
 
 -- after `elim `
 abbrev pub eliminator_at : Signature → List ℕ → Reading RawEntry

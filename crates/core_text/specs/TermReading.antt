@@ -1,18 +1,13 @@
 -- Reading a term: one byte, or the word after a parenthesis, says its form.
-use Rattle.std.specs.Prelude.{ℕ, zero, suc, ◌+◌, ◌==◌, nat_le, Bool, true, false, if◌then◌else◌, List, [], ◌∷◌, length, take, drop, codes, bytes_eq, Ok, Err, Option, Some, None}
-use Rattle.theory.specs.Terms.{Term, Var, Sort, Pi, Lam, App, Let, height}
+use Rattle.std.specs.Prelude.{ℕ, zero, suc, ◌+◌, ◌==◌, nat_le, Bool, true, false, if◌then◌else◌, List, length, take, drop, codes, bytes_eq, Ok, Err, Option, Some, None}
+use Rattle.theory.specs.Terms.{Term, Var, Sort, Pi, Lam, App, Let, height, top}
 use Rattle.core_text.specs.NameRuns.{run_len}
-use Rattle.core_text.specs.Reading.{Reading, wrong, and_then, after, begins, past, first, read_index, read_level}
+use Rattle.core_text.specs.Reading.{Reading, wrong, and_then, after, begins, past, first, read_index}
 use Rattle.core_text.specs.declared.halt.Halt.TheVariants.{Nested}
 
 -- the greatest height of a term, and the number of terms that may be nested
 abbrev pub most : ℕ
 most = 2000
-
--- the levels 0 to 15, all of which may be after `Type`
-abbrev pub sort_levels : List Bool
-sort_levels =
-    true ∷ true ∷ true ∷ true ∷ true ∷ true ∷ true ∷ true ∷ true ∷ true ∷ true ∷ true ∷ true ∷ true ∷ true ∷ true ∷ []
 
 -- a term that is not too high
 abbrev pub limited : Term → List ℕ → Reading Term
@@ -39,7 +34,7 @@ variable_at (suc n) rest = as_term Var (read_index (suc n) (drop 1 rest))
 
 -- a sort, after `Type`
 abbrev pub sort_at : List ℕ → Reading Term
-sort_at rest = after (past (codes " ") rest) (λ r. as_term Sort (read_level sort_levels r))
+sort_at rest = after (past (codes " ") rest) (λ r. as_term Sort (read_index (top + 1) r))
 
 -- a sort, or a name of n bytes; `look` says what names stand for
 abbrev pub named : (List ℕ → Option Term) → ℕ → List ℕ → Reading Term

@@ -1,19 +1,24 @@
-ghost use Rattle.std.specs.Prelude.{◌≡◌, not, IfOk, OnErr};
+ghost use Rattle.std.specs.Prelude.{◌≡◌, ◌<◌, ◌+◌};
 ghost use Rattle.std.specs.List.{list_any};
 ghost use Rattle.core_text.specs.LineReading as spec;
-ghost use Rattle.core_text.specs.declared.halt.Halt.TheVariants.{Memory};
+ghost use Rattle.core_text.specs.Reading.{is_left, some_left};
 
-use crate::halt::Halt;
-use crate::scanning::some_left;
 use core_sig::Signature;
 use core_terms::TOP;
-use std::alloc::Global;
 
 /// The instances of the eliminator of one family, or of K of one identity family.
 #[derive(Clone, Copy, Debug, PartialEq, Eq)]
 pub(crate) enum Series {
     Elim(u32),
     AxiomK(u8),
+}
+
+/// The levels that may stand at a place of a line: those at which a series has no instance yet, or the identity families for which
+/// there is a level at which K is not there yet.
+#[derive(Clone, Copy, Debug, PartialEq, Eq)]
+pub(crate) enum Choice {
+    Level(Series),
+    Identity,
 }
 
 /// Whether the signature has the instance.
@@ -26,38 +31,36 @@ fn has_instance(sig: &Signature, series: Series, level: u8) -> bool
     }
 }
 
-/// The levels at which the series has no instance yet.
-#[tactic(auto, unfolding(crate::specs::LineReading::levels_left))]
-pub(crate) fn levels_left(alloc: Global, sig: &Signature, series: Series) -> Result<Vec<bool>, Halt>
-    ensures ok { IfOk result (λ levels. levels.items ≡ spec.levels_left sig.now series) }
-    ensures memory { OnErr result (result ≡ Err Memory) }
+/// Whether the series may have an instance at the level, and has none yet.
+#[tactic(auto, using(crate::proofs::LevelLists::level_at))]
+fn is_level_left(sig: &Signature, series: Series, level: u8) -> bool
+    ensures { result ≡ is_left (spec.levels_left sig.now series) level }
 {
-    let mut levels = Vec::new(alloc);
-    for level in 0..TOP {
-        levels.push(!has_instance(sig, series, level))?;
-    }
-    Ok(levels)
+    level < TOP && !has_instance(sig, series, level)
 }
 
-/// Whether K of the identity family is not there yet at some level.
-#[tactic(auto, unfolding(crate::specs::LineReading::some_level_left))]
-fn some_level_left(alloc: Global, sig: &Signature, i: u8) -> Result<bool, Halt>
-    ensures ok { IfOk result (λ left. left ≡ spec.some_level_left sig.now i) }
-    ensures memory { OnErr result (result ≡ Err Memory) }
+/// Whether the series has no instance yet at one of the levels from the given one on, among as many as `count` says.
+fn some_level_left(sig: &Signature, series: Series, from: u8, count: u8) -> bool
+    requires { from + count < 200 }
+    ensures { result ≡ some_left (spec.levels_left sig.now series) from count }
 {
-    let levels = levels_left(alloc, sig, Series::AxiomK(i))?;
-    Ok(some_left(levels.as_slice(), 0, TOP))
+    count > 0
+        && (is_level_left(sig, series, from) || some_level_left(sig, series, from + 1, count - 1))
 }
 
-/// The numbers of the identity families for which K is not there yet at some level.
-#[tactic(auto, unfolding(crate::specs::LineReading::identities_left))]
-pub(crate) fn identities_left(alloc: Global, sig: &Signature) -> Result<Vec<bool>, Halt>
-    ensures ok { IfOk result (λ levels. levels.items ≡ spec.identities_left sig.now) }
-    ensures memory { OnErr result (result ≡ Err Memory) }
+/// Whether there is an identity family with the number, and a level at which its K is not there yet.
+fn is_identity_left(sig: &Signature, number: u8) -> bool
+    ensures { result ≡ is_left (spec.identities_left sig.now) number }
 {
-    let mut levels = Vec::new(alloc);
-    for i in 0..TOP {
-        levels.push(some_level_left(alloc, sig, i)?)?;
+    number < TOP && some_level_left(sig, Series::AxiomK(number), 0, TOP)
+}
+
+/// Whether the level may stand at the place.
+pub(crate) fn is_left(sig: &Signature, choice: Choice, level: u8) -> bool
+    ensures { result ≡ is_left (spec.levels_of sig.now choice) level }
+{
+    match choice {
+        Choice::Level(series) => is_level_left(sig, series, level),
+        Choice::Identity => is_identity_left(sig, level),
     }
-    Ok(levels)
 }

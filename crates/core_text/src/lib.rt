@@ -10,6 +10,7 @@ mod halt;
 mod head;
 mod instances;
 mod laws;
+mod levels;
 mod line;
 mod line_reader;
 mod lookup;
@@ -37,6 +38,7 @@ pub use laws::{
     places_are_first, prelude_has_readable_names, spelled_lines_are_read,
     surface_names_are_readable, terms_are_read_back, what_is_read,
 };
+pub use lookup::{before_end, number_at_end};
 pub use stop::CoreTextStop;
 pub use term_printer::print_term;
 pub use texts::{context_text, context_text_with, reason_text, reason_text_with, spaced_text};

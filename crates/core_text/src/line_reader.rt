@@ -9,11 +9,12 @@ ghost use Rattle.core_text.specs.declared.halt.Halt.TheVariants.{Memory};
 use crate::data_reader::read_family;
 use crate::declared_names::new_name;
 use crate::halt::Halt;
-use crate::instances::{Series, identities_left, levels_left};
+use crate::instances::{Choice, Series};
+use crate::levels::read_level;
 use crate::line::Line;
 use crate::lookup::found_symbol;
 use crate::runs::run_len;
-use crate::scanning::{begins, first, past, read_level, skip};
+use crate::scanning::{begins, first, past, skip};
 use crate::scope::Scope;
 use crate::whole_terms::read_whole_after;
 use core_sig::Signature;
@@ -50,18 +51,17 @@ fn read_eliminator<'t>(scope: &Scope, rest: &'t [u8]) -> Result<(Line, &'t [u8])
     ensures { Reads line_of result (spec.eliminator_at scope.now.sig.now rest.now) }
 {
     let (family, rest) = family_name(scope.sig, rest)?;
-    let levels = levels_left(scope.alloc, scope.sig, Series::Elim(family))?;
-    let (level, rest) = read_level(levels.as_slice(), past(b" ", rest)?)?;
+    let levels = Choice::Level(Series::Elim(family));
+    let (level, rest) = read_level(scope.sig, levels, past(b" ", rest)?)?;
     end(Line::Elim(family, level), rest)
 }
 
 fn read_axiom_k<'t>(scope: &Scope, rest: &'t [u8]) -> Result<(Line, &'t [u8]), Halt>
     ensures { Reads line_of result (spec.axiom_k_line scope.now.sig.now rest.now) }
 {
-    let identities = identities_left(scope.alloc, scope.sig)?;
-    let (i, rest) = read_level(identities.as_slice(), rest)?;
-    let levels = levels_left(scope.alloc, scope.sig, Series::AxiomK(i))?;
-    let (level, rest) = read_level(levels.as_slice(), past(b" ", rest)?)?;
+    let (i, rest) = read_level(scope.sig, Choice::Identity, rest)?;
+    let levels = Choice::Level(Series::AxiomK(i));
+    let (level, rest) = read_level(scope.sig, levels, past(b" ", rest)?)?;
     end(Line::AxiomK(i, level), rest)
 }
 

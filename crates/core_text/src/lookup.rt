@@ -11,7 +11,7 @@ use core_sig::{Entry, Found, Signature};
 use core_terms::{TOP, Term};
 
 /// A number of at most two digits at the end, without a leading zero, and the bytes before it.
-pub(crate) fn number_at_end(bytes: &[u8]) -> Option<(&[u8], u8)>
+pub fn number_at_end(bytes: &[u8]) -> Option<(&[u8], u8)>
     ensures { option_map (λ p. (p.0.now, p.1)) result ≡ spec.number_at_end bytes.now }
 {
     let len = bytes.len();
@@ -27,7 +27,7 @@ pub(crate) fn number_at_end(bytes: &[u8]) -> Option<(&[u8], u8)>
 }
 
 /// The bytes before the word at the end.
-pub(crate) fn before_end<'t>(word: &[u8], bytes: &'t [u8]) -> Option<&'t [u8]>
+pub fn before_end<'t>(word: &[u8], bytes: &'t [u8]) -> Option<&'t [u8]>
     ensures { option_map (λ b. b.now) result ≡ spec.before_end word.now bytes.now }
 {
     bytes.strip_suffix(word)

@@ -1,4 +1,4 @@
-ghost use Rattle.std.specs.Prelude.{◌≡◌, ◌<◌, ◌+◌, drop, slice_index};
+ghost use Rattle.std.specs.Prelude.{◌≡◌, ◌<◌, ◌+◌, drop, slice_index, IfOk};
 ghost use Rattle.core_text.specs.Reading as spec;
 ghost use Rattle.core_text.specs.Reading.{Past, Reads, begins, past};
 
@@ -49,7 +49,8 @@ pub(crate) fn is_digit(byte: u8) -> bool
 
 /// A number below `bound`, in decimal.
 pub(crate) fn read_index(bound: u32, rest: &[u8]) -> Result<(u32, &[u8]), Halt>
-    ensures { Reads (λ n. n) result (spec.read_index bound rest.now) }
+    ensures reads { Reads (λ n. n) result (spec.read_index bound rest.now) }
+    ensures below { IfOk result (λ p. p.0 < bound) }
 {
     let [first, more @ ..] = rest else {
         return Err(Halt::Wrong(0));
@@ -64,7 +65,8 @@ pub(crate) fn read_index(bound: u32, rest: &[u8]) -> Result<(u32, &[u8]), Halt>
 /// The digits that go on with `start`.
 fn index_from(bound: u32, start: u32, digits: &[u8]) -> (u32, &[u8])
     requires { start < bound }
-    ensures { (result.0, result.1.now) ≡ spec.index_from bound start digits.now }
+    ensures goes_on { (result.0, result.1.now) ≡ spec.index_from bound start digits.now }
+    ensures below { result.0 < bound }
 {
     let mut value = u64::from(start);
     let mut rest = digits;
@@ -80,64 +82,4 @@ fn index_from(bound: u32, start: u32, digits: &[u8]) -> (u32, &[u8])
         rest = more;
     }
     (value as u32, rest)
-}
-
-fn is_left(levels: &[bool], level: usize) -> bool
-    ensures { result ≡ spec.is_left levels.now level }
-{
-    match levels.get(level) {
-        Some(left) => *left,
-        None => false,
-    }
-}
-
-/// Whether one of the levels from the given one on is left, among as many as `count` says.
-pub(crate) fn some_left(levels: &[bool], from: usize, count: u8) -> bool
-    requires { from + count < 1000 }
-    ensures { result ≡ spec.some_left levels.now from count }
-{
-    count > 0 && (is_left(levels, from) || some_left(levels, from + 1, count - 1))
-}
-
-/// Whether some level that is left begins with the digit.
-fn begins_level(levels: &[bool], digit: u8) -> bool
-    requires { digit < 10 }
-    ensures { result ≡ spec.begins_level levels.now digit }
-{
-    let level = usize::from(digit);
-    is_left(levels, level) || (0 < digit && some_left(levels, 10 * level, 10))
-}
-
-/// One of the levels that are left, in decimal.
-pub(crate) fn read_level<'t>(levels: &[bool], rest: &'t [u8]) -> Result<(u8, &'t [u8]), Halt>
-    ensures { Reads (λ n. n) result (spec.read_level levels.now rest.now) }
-{
-    let [first, more @ ..] = rest else {
-        return Err(Halt::Wrong(0));
-    };
-    if is_digit(*first) && begins_level(levels, *first - b'0') {
-        level_from(levels, *first - b'0', more)
-    } else {
-        Err(Halt::Wrong(rest.len()))
-    }
-}
-
-/// The level that begins with the digit.
-fn level_from<'t>(levels: &[bool], digit: u8, rest: &'t [u8]) -> Result<(u8, &'t [u8]), Halt>
-    requires { digit < 10 }
-    ensures { Reads (λ n. n) result (spec.level_from levels.now digit rest.now) }
-{
-    if let [second, more @ ..] = rest {
-        if is_digit(*second) && 0 < digit {
-            let level = 10 * digit + (*second - b'0');
-            if is_left(levels, usize::from(level)) {
-                return Ok((level, more));
-            }
-        }
-    }
-    if is_left(levels, usize::from(digit)) {
-        Ok((digit, rest))
-    } else {
-        Err(Halt::Wrong(rest.len()))
-    }
 }

@@ -10,11 +10,12 @@ ghost use Rattle.core_text.specs.TermReading as spec;
 use crate::halt::Halt;
 use crate::lookup::symbol;
 use crate::runs::run_len;
-use crate::scanning::{begins, first, past, read_index, read_level, skip};
+use crate::scanning::{begins, first, past, read_index, skip};
 use crate::scope::Scope;
-use core_terms::{Low, MAX_HEIGHT, Term};
+use core_terms::{Low, MAX_HEIGHT, TOP, Term};
 
-const SORT_LEVELS: [bool; 16] = [true; 16];
+/// How many sorts there are.
+const SORTS: u32 = TOP as u32 + 1;
 
 /// The term, where it is not too high.
 fn limited(term: Term, height: u32, rest: &[u8]) -> Result<(Low, &[u8]), Halt>
@@ -58,8 +59,8 @@ fn read_variable(under: u32, rest: &[u8]) -> Result<(Low, &[u8]), Halt>
 fn read_sort(rest: &[u8]) -> Result<(Low, &[u8]), Halt>
     ensures { Reads low_of result (spec.sort_at rest.now) }
 {
-    let (level, rest) = read_level(&SORT_LEVELS, past(b" ", rest)?)?;
-    Ok((Low::leaf(Term::Sort(level)), rest))
+    let (level, rest) = read_index(SORTS, past(b" ", rest)?)?;
+    Ok((Low::leaf(Term::Sort(level as u8)), rest))
 }
 
 /// A sort or a symbol.

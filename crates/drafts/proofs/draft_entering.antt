@@ -8,6 +8,7 @@ pub mod Longer
 pub mod NameParts
 pub mod NamedDrafts
 pub mod NamedEntering
+pub mod NamedLevels
 pub mod TableLookups
 pub mod Unindexed
 pub mod UnmarkedNames

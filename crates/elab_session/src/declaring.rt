@@ -30,6 +30,7 @@ pub fn declare(alloc: Global, sig: &mut Signature, fuel: u64, d: &Decl) -> Resul
     let mut units = Units {
         left: fuel,
         spent: 0,
+        full: false,
     };
     declare_with(alloc, sig, fuel, d, &mut units)
 }

@@ -49,6 +49,7 @@ pub fn enter_entry(
     let mut units = Units {
         left: fuel,
         spent: 0,
+        full: false,
     };
     enter(alloc, sig, 0, fuel, raw, &mut units)
 }

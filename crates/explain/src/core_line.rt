@@ -96,6 +96,14 @@ pub fn says(line: Line<'_>, at: usize, text: &str) -> bool {
     core_word(line, at) == text.as_bytes()
 }
 
+/// Whether the sort of this level is at this word.
+pub fn is_sort_of(line: Line<'_>, at: usize, level: u8) -> bool {
+    match core_word(line, at).strip_prefix(b"Type ") {
+        Some(digits) => number_of(digits) == usize::from(level),
+        None => false,
+    }
+}
+
 pub fn mate(line: Line<'_>, at: usize) -> usize {
     line.mates.get(at).copied().unwrap_or(at)
 }

@@ -5,6 +5,7 @@ use crate::source::{
     Declared, Form, Span, closing, colon_of_binder, end_of, find, is, is_name, is_number, part,
     start_of, token_at, word, written,
 };
+use core_terms::TOP;
 use std::alloc::Global;
 use surface_syntax::{SyntaxStop, parse, tokens};
 
@@ -26,7 +27,7 @@ const KINDS: [(&str, &str); 17] = [
     ("}", "`}`"),
     ("with", "`with`"),
     ("in", "`in`"),
-    ("0", "a level from 0 to 15"),
+    ("0", "a level from 0 to "),
 ];
 
 /// Whether some program goes on with this word after these bytes.
@@ -85,6 +86,9 @@ fn say_expected(page: &mut Page, may: &[bool; 17]) {
             }
             is_first = false;
             page.say(kind.1);
+            if kind.0 == "0" {
+                page.number(usize::from(TOP));
+            }
         }
     }
 }
@@ -213,7 +217,7 @@ fn by_words(m: &Matter<'_>, token: usize, may: &[bool; 17]) -> &'static str {
     } else if is(m.s, before, "\\") {
         "annotate the variable: `\\(x : A) -> ..`."
     } else if is(m.s, before, "Type") {
-        "a sort has its level: write `Type 0`, or a higher one up to `Type 15`."
+        "a sort has its level: write `Type 0`, or a higher one."
     } else if is_number(m.s, token) {
         "there are no numerals: write `suc (suc zero)`, or declare a name for it."
     } else if is(m.s, token, "{") && may[0] && may[1] {

@@ -1,6 +1,7 @@
 use crate::clauses::{Clause, find_clause, right_of};
 use crate::core_line::{
-    Line, Shape, behind, context_of, core_word, head, parts_of, same_term, says, shape_of,
+    Line, Shape, behind, context_of, core_word, head, is_sort_of, parts_of, same_term, says,
+    shape_of,
 };
 use crate::families::{
     body_of, constructor, count_args, count_params, is_at_level, is_constructor, parameters,
@@ -13,6 +14,10 @@ use crate::page::Page;
 use crate::paths::{Found, follow};
 use crate::rendering::say_term;
 use crate::source::{Source, Span, atoms, bare, closing, is, word, written};
+use core_terms::TOP;
+
+/// The greatest level of a function.
+const GREATEST_LEVEL: u8 = TOP - 3;
 
 /// Where the checker rejects something: the written part, its clause, and the word of the line with the place in the part.
 #[derive(Clone, Copy)]
@@ -204,9 +209,7 @@ fn advise<'a>(
     names: &mut Vec<Label<'a>>,
 ) {
     if says(m.line, reason, "LevelTooHigh") || is_too_high_for_function(m, reason) {
-        page.advise(
-            "there is no level above 15, and a function is at most in `Type 12`: take lower levels.",
-        );
+        advise_levels(page);
     } else if says(m.line, 4, "goal") {
         page.advise(
             "what depends on the value keeps its old type: let a function of its own take the value and all that depends on it.",
@@ -228,12 +231,20 @@ fn advise<'a>(
     }
 }
 
-/// Whether the type of a function, or the goal of a helper, is in a sort above `Type 12`.
+fn advise_levels(page: &mut Page) {
+    page.advise("there is no level above ");
+    page.number(usize::from(TOP));
+    page.say(", and a function is at most in `Type ");
+    page.number(usize::from(GREATEST_LEVEL));
+    page.say("`: take lower levels.");
+}
+
+/// Whether the type of a function, or the goal of a helper, is in too high a sort.
 fn is_too_high_for_function(m: &Matter<'_>, reason: usize) -> bool {
     let ty = reason.saturating_add(1);
     let wanted = behind(m.line, ty).saturating_add(1);
     let is_whole = says(m.line, 4, "type") || says(m.line, 4, "goal");
-    is_whole && is_sort(m.line, ty) && says(m.line, wanted, "Type 12")
+    is_whole && is_sort(m.line, ty) && is_sort_of(m.line, wanted, GREATEST_LEVEL)
 }
 
 fn is_product(line: Line<'_>, at: usize) -> bool {

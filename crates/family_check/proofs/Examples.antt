@@ -1,6 +1,6 @@
 -- Small cases of entering, by computation: entries that enter, with the units that are left, and refusals.
 use native.Mathlib.Decide.{ℕ_discrete}
-use Rattle.std.proofs.Common.{◌≡◌, ℕ, true, Ok, Err, None, Some, List, [], ◌∷◌, codes, refl}
+use Rattle.std.proofs.Common.{◌≡◌, ℕ, ◌-◌, true, Ok, Err, None, Some, List, [], ◌∷◌, codes, refl}
 use Rattle.theory.specs.Terms.{Term, Var, Sort, Pi, Lam, App, Fam, Con, top}
 use Rattle.theory.specs.Families.{Family, Plain, Recursive}
 use Rattle.theory.specs.Signatures.{Signature, Entry, FamilyOf, EliminatorAt, AxiomKAt, Definition}
@@ -223,8 +223,8 @@ wrong_body : define_of start (codes "t") (Sort 0) (Sort 0) 3 ≡ denied OfBody [
 unfolding sort_in type_in denied refused native.Mathlib.Decide.ℕ_discrete start
 wrong_body = refl
 
--- def t : Type 15 = Type 14
-wrong_type : define_of start (codes "t") (Sort 15) (Sort 14) 1 ≡ denied OfType [] [] LevelTooHigh 0
+-- the type is the sort that has none
+wrong_type : define_of start (codes "t") (Sort top) (Sort (top - 1)) 1 ≡ denied OfType [] [] LevelTooHigh 0
 unfolding sort_in type_in denied refused native.Mathlib.Decide.ℕ_discrete start
 wrong_type = refl
 

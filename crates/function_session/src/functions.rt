@@ -55,6 +55,7 @@ fn enter_function(
     let mut units = Units {
         left: fuel,
         spent: 0,
+        full: false,
     };
     match function(alloc, sig, f, &mut units) {
         Ok(lines) => Ok(Accepted {

@@ -2,7 +2,7 @@
 use Rattle.std.proofs.Common.{◌≡◌, ℕ, zero, suc, ◌+◌, ◌<◌, ◌≤◌, Bool, true, false, ◌∷◌, Ok, Err, refl, sym, ap, ◌∙◌, subst as transport, arith}
 use Rattle.std.proofs.lemmas.Bool.Decides.{nat_tests}
 use Rattle.theory.specs.Terms.{Term, height, subst as put}
-use Rattle.theory.specs.Terms.Term.{Var, Pi}
+use Rattle.theory.specs.Terms.Term.{Var, Pi, App}
 use Rattle.theory.specs.Telescopes.{Context}
 use Rattle.theory.specs.Signatures.{Signature}
 use Rattle.core_terms.specs.Answers.{Spent, and_next, is_low}
@@ -114,6 +114,12 @@ infer-is S room under left rest G t er el low =
     sym (ap (λ x. if_low x (charge (infer_form S (infer_of S under) (infer_sort_of S under) (check_of S under) G t)) (suc rest)) test)
     ∙ ap (λ x. infer_of S (suc under) G t x) left_is ∙ ap (λ x. infer_of S x G t left) room_is
 
+-- of an application
+pub application-is : (S : Signature) (room left rest : ℕ) (G : Context) (f u c : Term) → height (App f u) ≤ 2000
+    → answered (Ok (Yes c)) rest ≡ infer_application S (infer_of S room) (infer_sort_of S room) (check_of S room) G f u left
+    → answered (Ok (Yes c)) rest ≡ infer_of S (room + 1) G (App f u) (left + 1)
+application-is S room left rest G f u c low e = e ∙ infer-is S (room + 1) room (left + 1) left G (App f u) refl refl low
+
 -- and needs one
 pub infer-fuel : (S : Signature) (room under left : ℕ) (G : Context) (t : Term) → room ≡ under + 1 → left ≡ 0 → height t ≤ 2000
     → answered (Err Fuel) left ≡ infer_of S room G t left
@@ -189,6 +195,15 @@ module _ (G K : Context) (same : K ≡ G) where
 pub at-then : (check : Checks) (G : Context) (u a b t made : Term) (left rest : ℕ) → made ≡ put b 0 u → answered (Ok (Yes t)) rest ≡ behind 1 (check G u a left)
     → answered (of_type made) rest ≡ apply_product check G u (Pi a b) left
 at-then check G u a b t made left rest em e = rw em (ap (λ (s : Spent Verdict). if_typed s (λ found end. answered (of_type (put b 0 u)) end)) e)
+
+-- where the type of the function was put together from another store
+pub argument-same : (check : Checks) (G K : Context) → K ≡ G → (u v a d b x : Term) (left : ℕ) → v ≡ u → d ≡ a → x ≡ b
+    → if_typed (behind 1 (check K v d left)) (decided.instance_type x v) ≡ apply_product check G u (Pi a b) left
+argument-same check G K same u v a d b x left ev ed ex = rw (same, ev, ed, ex) refl
+
+pub typed-same : (S : Signature) (ask : Asks) (check : Checks) (G K : Context) → K ≡ G → (u v c d : Term) (left : ℕ) → v ≡ u → d ≡ c
+    → decided.apply_typed S ask check K v d left ≡ decided.apply_typed S ask check G u c left
+typed-same S ask check G K same u v c d left ev ed = rw (same, ev, ed) refl
 
 -- the sort of a codomain
 pub codomain-then : (first : Spent Verdict) (i j k r : Term) (rest : ℕ) → answered (Ok (Yes j)) rest ≡ first → r ≡ greater_sort k j → k ≡ i → height r ≤ 2000

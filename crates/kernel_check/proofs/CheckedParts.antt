@@ -17,7 +17,7 @@ use Rattle.store_reduce.proofs.PlaceLaws.{ok-ends}
 use Rattle.store_reduce.proofs.Wholes.{whole_is}
 use Rattle.kernel_check.specs.Checking.{Asks, reduced_product, product_of, infer_of}
 use Rattle.kernel_check.specs.Applications.{IsAppliedPart}
-use Rattle.kernel_check.specs.Asked.{Finds, IsAsked, Forms, IsCheckedPart, IsCheckedAgainst, IsProductPart, IsArgumentPart, IsLeafPart}
+use Rattle.kernel_check.specs.Asked.{Finds, IsCheckedPart, IsCheckedAgainst, IsProductPart, IsArgumentPart, IsLeafPart}
 use Rattle.kernel_check.specs.Asked as way
 use Rattle.kernel_check.proofs.Asking.{part-inside, formed-of}
 use Rattle.kernel_check.proofs.Parts.{Splits, child-splits}
@@ -79,6 +79,10 @@ module _ {S : Signature} {G : Context} where
   -- a term that is formed of a type
   pub found-part : {t c : Term} → Finds S G t c → (x : Term) → IsFormedPart S true (c ∷ []) x → IsCheckedPart S G t x
   found-part found x p = record { whole = p.whole; formed = way.reduced way.itself found p.formed; part = p.part }
+
+  -- of a type that is found
+  pub type-part : {t c : Term} → Finds S G t c → (x : Term) → IsPart x c → IsCheckedPart S G t x
+  type-part {t} {c} found x h = found-part found x (record { whole = c; formed = first-formed S true c []; part = h })
 
   pub way-part : {t c : Term} → Finds S G t c → (x : Term) → IsPartOnTheWay S true c x → IsCheckedPart S G t x
   way-part {t} {c} found x w = found-part found x (way-formed S c x w)

@@ -6,7 +6,7 @@ use Rattle.theory.specs.Signatures.{Signature}
 use Rattle.theory.specs.SignatureScopes.{IsScoped}
 use Rattle.theory.proofs.ScopedTerms.{scoped-pi, scoped-lam, scoped-app, scoped-let, scoped_over_more, subst-scoped}
 use Rattle.core_terms.specs.Answers.{Spent}
-use Rattle.core_terms.specs.Bounds.{most_free}
+use Rattle.core_terms.specs.Bounds.{most_free, most_inner_variables}
 use Rattle.core_terms.specs.Verdicts.{Verdict}
 use Rattle.core_terms.specs.Verdicts.Verdict.{Yes, No}
 use Rattle.core_terms.specs.declared.stop.Stop.{Stop}
@@ -136,6 +136,9 @@ module _ {I : Type 0} {held : Held I} {S : Signature} {room : ℕ} where
   -- its variables are few enough to be put under binders
   pub can-indices : {scope : Scope I} {t : Term} → CanCheckIn held S room scope t → free_of t ≤ most_free
   can-indices h = let free = h.term.variables in omega (arith, free, h.few)
+
+  pub can-inner : {scope : Scope I} {t : Term} → CanCheckIn held S room scope t → free_of t ≤ most_inner_variables
+  can-inner h = let free = h.term.variables in omega (arith, free, h.few)
 
   -- it can be reduced, and compared
   pub can-reduce : {scope : Scope I} {t : Term} → CanCheckIn held S room scope t → CanReduce S (t ∷ [])

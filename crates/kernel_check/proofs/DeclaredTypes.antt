@@ -7,13 +7,13 @@ use Rattle.core_terms.specs.Meanings.{tree_of, tele_of}
 use Rattle.core_terms.specs.declared.term.Term.{Term}
 use Rattle.term_pool.specs.Held.{Held}
 use Rattle.core_sig.specs.EntryIds.{Correspond}
+use Rattle.store_reduce.proofs.Correspondents.{second-at}
 use Rattle.kernel_check.specs.Scopes.{IsLive, IsWritten, scope_in}
 use Rattle.kernel_check.specs.TypeIds.{IsTypeId, known_type}
 use Rattle.kernel_check.specs.declared.type_id.TypeId.{TypeId}
 use Rattle.kernel_check.specs.declared.type_id.TypeId.TheVariants.{Of, Unknown}
 use Rattle.kernel_check.specs.declared.scope.Scope.{Scope, Under}
 use Rattle.kernel_check.proofs.Contexts.{within-reverse, at-reverse, past-reverse, declared-at, declared-past}
-use Rattle.kernel_check.proofs.Correspondents.{second-at}
 use Rattle.kernel_check.proofs.FoundTypes.{meant-type}
 
 module _ {I : Type 0} (held : Held I) where

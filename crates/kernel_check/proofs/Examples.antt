@@ -1,7 +1,7 @@
 -- Small cases of the checker, by computation: the verdicts with the units that are left.
 use native.Mathlib.Decide.{ℕ_discrete}
-use Rattle.std.proofs.Common.{◌≡◌, ℕ, false, Ok, Err, List, [], ◌∷◌, refl}
-use Rattle.theory.specs.Terms.{Term, Var, Sort, Pi, Lam, App, Let, Const, Elim, AxiomK}
+use Rattle.std.proofs.Common.{◌≡◌, ℕ, ◌-◌, false, Ok, Err, List, [], ◌∷◌, refl}
+use Rattle.theory.specs.Terms.{Term, Var, Sort, Pi, Lam, App, Let, Const, Elim, AxiomK, top}
 use Rattle.theory.specs.Signatures.{Signature, FamilyOf, EliminatorAt, Definition}
 use Rattle.theory.specs.Prelude.{empty_family}
 use Rattle.core_terms.specs.Answers.{Spent}
@@ -91,11 +91,11 @@ value_mismatch : infer_of sample nesting [] (Let (Sort 0) (Sort 0) (Var 0)) 9
 unfolding no_with native.Mathlib.Decide.ℕ_discrete sample
 value_mismatch = refl
 
-sort_too_high : infer_sort_of sample nesting [] (Sort 15) 9 ≡ no_with [] [] LevelTooHigh 8
+sort_too_high : infer_sort_of sample nesting [] (Sort top) 9 ≡ no_with [] [] LevelTooHigh 8
 unfolding no_with native.Mathlib.Decide.ℕ_discrete sample
 sort_too_high = refl
 
-function_too_high : infer_of sample nesting [] (Lam (Sort 0) (Lam (Var 0) (Sort 14))) 9
+function_too_high : infer_of sample nesting [] (Lam (Sort 0) (Lam (Var 0) (Sort (top - 1)))) 9
     ≡ no_with (1 ∷ []) (Sort 0 ∷ []) LevelTooHigh 4
 unfolding no_with native.Mathlib.Decide.ℕ_discrete sample
 function_too_high = refl
@@ -120,7 +120,7 @@ no_k = refl
 
 -- a denial inside the reduced type of a function: in the domain of the product, after child 0 of the application
 reducible : Term
-reducible = App (Lam (Sort 0) (Pi (Sort 15) (Sort 0))) (Sort 0)
+reducible = App (Lam (Sort 0) (Pi (Sort top) (Sort 0))) (Sort 0)
 
 no_reduct : infer_of sample nesting (reducible ∷ []) (App (Var 0) (Sort 0)) 9
     ≡ no_with (0 ∷ 0 ∷ []) (reducible ∷ []) LevelTooHigh 4

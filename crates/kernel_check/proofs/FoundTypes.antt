@@ -20,11 +20,11 @@ use Rattle.core_sig.specs.declared.entry_ids.EntryIds.{EntryIds}
 use Rattle.core_sig.proofs.Instances.{from-zero, some-position}
 use Rattle.kernel_reduce.specs.Entries.{family_in, family_at}
 use Rattle.kernel_reduce.proofs.LookUps.{family-found}
+use Rattle.store_reduce.proofs.Correspondents.{first-at, second-at, first-past}
 use Rattle.kernel_check.specs.Symbols.{type_in, symbol_type}
 use Rattle.kernel_check.specs.TypeIds.{IsTypeId, FindsType, known_type, entry_type, definition_type, constructor_id_type, constructor_type, instance_type}
 use Rattle.kernel_check.specs.declared.type_id.TypeId.{TypeId}
 use Rattle.kernel_check.specs.declared.type_id.TypeId.TheVariants.{Unknown}
-use Rattle.kernel_check.proofs.Correspondents.{first-at, second-at, first-past}
 use Rattle.kernel_check.proofs.SymbolTypes.{eliminator-is, axiom_k-is}
 
 passes-from : (p : Entry → Bool) (i : ℕ) (xs : List Entry) (n : ℕ) → position_from p i xs ≡ Some n

@@ -2,7 +2,7 @@
 use Rattle.std.proofs.Common.{◌≡◌, ℕ, ◌+◌, ◌<◌, ◌≤◌, Bool, true, false, cond, nat_lt, Option, Some, None, Result, Ok, Err, slice_get, refl, sym, ap, ◌∙◌, arith}
 use Rattle.std.proofs.lemmas.Bool.Decides.{nat_tests}
 use Rattle.theory.specs.Terms as tree
-use Rattle.theory.specs.Terms.{Term, lift, height}
+use Rattle.theory.specs.Terms.{Term, lift, height, top}
 use Rattle.theory.specs.Telescopes.{Context}
 use Rattle.theory.specs.Signatures.{Signature}
 use Rattle.theory.proofs.Heights.{height-lift}
@@ -63,14 +63,14 @@ variable-high G n o a found high = sym (ap (variable_type G n) found ∙ typed-h
 
 -- a sort below Type top has a type, and Type top has none
 module _ (G : Context) (i : ℕ) where
-  pub universe-below : i < 15 → universe_type G i ≡ of_type (tree.Sort (i + 1))
+  pub universe-below : i < top → universe_type G i ≡ of_type (tree.Sort (i + 1))
   universe-below below =
-      let test : nat_lt i 15 ≡ true = grind (arith, nat_tests) in
+      let test : nat_lt i top ≡ true = grind (arith, nat_tests) in
       ap (λ (b : Bool). cond b (of_type (tree.Sort (i + 1))) (denied G LevelTooHigh)) test
 
-  pub universe-at-top : 15 ≤ i → universe_type G i ≡ denied G LevelTooHigh
+  pub universe-at-top : top ≤ i → universe_type G i ≡ denied G LevelTooHigh
   universe-at-top above =
-      let test : nat_lt i 15 ≡ false = grind (arith, nat_tests) in
+      let test : nat_lt i top ≡ false = grind (arith, nat_tests) in
       ap (λ (b : Bool). cond b (of_type (tree.Sort (i + 1))) (denied G LevelTooHigh)) test
 
 module _ (G : Context) (n : ℕ) (a : Term) (found : slice_get G n ≡ Some a) where

@@ -5,18 +5,19 @@ pub mod CheckedAnswers
 pub mod CheckedParts
 pub mod Conditions
 pub mod Contexts
-pub mod Correspondents
 pub mod Deciding
 pub mod DeclaredTypes
 pub mod Denials
 mod Examples
 pub mod FamilyScopes
+pub mod Filling
 pub mod FoundTypes
 pub mod Given
 pub mod HighTerms
 pub mod KernelLayers
 pub mod LeafTypes
 pub mod LiveScopes
+pub mod Opening
 pub mod Parts
 pub mod Rooms
 pub mod Scoped

@@ -4,6 +4,7 @@ pub mod Checking
 pub mod Decided
 pub mod Kernels
 pub mod Laws
+pub mod Opened
 pub mod Rooms
 pub mod Scopes
 pub mod Symbols

@@ -78,7 +78,7 @@ impl<'a> Kernel<'a> {
         self.sig
     }
 
-    /// Ends the kernel, and gives its units back.
+    /// Ends the kernel, and gives its units back, with whether its layer came to where there was no room.
     pub fn into_units(self) -> Units
         ensures left { result.left ≡ self.entry.left }
         ensures spent { result.spent ≡ self.entry.spent }
@@ -90,6 +90,8 @@ impl<'a> Kernel<'a> {
             layer,
             units,
         } = self;
+        let mut units = units;
+        units.full = units.full || layer.lacked();
         drop(layer);
         units
     }

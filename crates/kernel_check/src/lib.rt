@@ -5,6 +5,7 @@
 #![tactic(auto)]
 
 mod checking;
+mod filled;
 mod kernel;
 pub mod laws;
 mod leaf;

@@ -16,7 +16,7 @@ use Rattle.core_sig.specs.declared.family.Constructor.{Constructor}
 use Rattle.core_sig.specs.declared.family.Family.{Family}
 use Rattle.kernel_reduce.specs.Calls.{HasAllArguments}
 use Rattle.kernel_reduce.specs.Entries.{family_at}
-use Rattle.kernel_reduce.specs.Steps.{awaits_scrutinee, fills, contraction}
+use Rattle.kernel_reduce.specs.Steps.{awaits_scrutinee, fills}
 use Rattle.kernel_reduce.specs.Tests.{constructor_takes, family_takes, meets, eliminator_numbers, constructor_number}
 use Rattle.kernel_reduce.proofs.SpineLengths.{spine_fits}
 use Rattle.kernel_reduce.proofs.StepLaws.{both-true}

@@ -6,6 +6,7 @@ use Rattle.theory.specs.Telescopes.{applied}
 use Rattle.theory.specs.Families.{Family, Plain, Recursive}
 use Rattle.theory.specs.Prelude.{prelude}
 use Rattle.theory.specs.Signatures.{Signature, FamilyOf, Definition}
+use Rattle.theory.proofs.AfterPrelude.{after}
 use Rattle.core_terms.specs.declared.stop.Stop.TheVariants.{Fuel, Deep}
 use Rattle.kernel_reduce.specs.Reduction.{answered, nesting, head_step_of, whnf_of, normal_of}
 use Rattle.kernel_reduce.specs.Comparison.{convertible_of, subtype_of}
@@ -27,14 +28,14 @@ vector_family : Family
 vector_family = record {
   name = [];
   parameters = Sort 0 ∷ [];
-  indices = (Fam 46, 0) ∷ [];
+  indices = (Fam (after 0), 0) ∷ [];
   level = 0;
   constructors =
-      record { name = []; arguments = []; targets = Con 46 0 ∷ [] }
+      record { name = []; arguments = []; targets = Con (after 0) 0 ∷ [] }
       ∷ record {
         name = [];
-        arguments = Plain (Fam 46) 0 ∷ Plain (Var 1) 0 ∷ Recursive [] (Var 1 ∷ []) 0 ∷ [];
-        targets = App (Con 46 1) (Var 2) ∷ [];
+        arguments = Plain (Fam (after 0)) 0 ∷ Plain (Var 1) 0 ∷ Recursive [] (Var 1 ∷ []) 0 ∷ [];
+        targets = App (Con (after 0) 1) (Var 2) ∷ [];
       }
       ∷ [];
 }
@@ -48,11 +49,11 @@ tree_family = record {
   level = 0;
   constructors =
       record { name = []; arguments = []; targets = [] }
-      ∷ record { name = []; arguments = Recursive (Fam 46 ∷ []) [] 0 ∷ []; targets = [] }
+      ∷ record { name = []; arguments = Recursive (Fam (after 0) ∷ []) [] 0 ∷ []; targets = [] }
       ∷ [];
 }
 
--- after the prelude Nat, Vec and Tree, then the constant 49 for Type 0 -> Type 0, and the provisional constant 50
+-- after the prelude Nat, Vec and Tree, then a constant for Type 0 -> Type 0, and a provisional constant
 sample : Bool → Signature
 unfolding natural_family vector_family tree_family
 sample k = record {
@@ -62,28 +63,28 @@ sample k = record {
       ∷ FamilyOf vector_family
       ∷ FamilyOf tree_family
       ∷ Definition [] (Sort 1) (Pi (Sort 0) (Sort 0))
-      ∷ Definition [] (Sort 1) (Const 50)
+      ∷ Definition [] (Sort 1) (Const (after 4))
       ∷ [];
   has_k = k;
 }
 
 number : ℕ → Term
-number zero = Con 46 0
-number (suc n) = App (Con 46 1) (number n)
+number zero = Con (after 0) 0
+number (suc n) = App (Con (after 0) 1) (number n)
 
 -- plus n m by recursion on n
 plus : Term → Term → Term
 plus n m =
-    applied (Elim 46 0) (Lam (Fam 46) (Fam 46) ∷ m ∷ Lam (Fam 46) (Lam (Fam 46) (App (Con 46 1) (Var 0))) ∷ n ∷ [])
+    applied (Elim (after 0) 0) (Lam (Fam (after 0)) (Fam (after 0)) ∷ m ∷ Lam (Fam (after 0)) (Lam (Fam (after 0)) (App (Con (after 0) 1) (Var 0))) ∷ n ∷ [])
 
 -- the number of the elements of v : Vec Nat n
 length_of : Term → Term → Term
 length_of n v =
-    applied (Elim 47 0)
-    (Fam 46
-    ∷ Lam (Fam 46) (Lam (applied (Fam 47) (Fam 46 ∷ Var 0 ∷ [])) (Fam 46))
-    ∷ Con 46 0
-    ∷ Lam (Fam 46) (Lam (Fam 46) (Lam (applied (Fam 47) (Fam 46 ∷ Var 1 ∷ [])) (Lam (Fam 46) (App (Con 46 1) (Var 0)))))
+    applied (Elim (after 1) 0)
+    (Fam (after 0)
+    ∷ Lam (Fam (after 0)) (Lam (applied (Fam (after 1)) (Fam (after 0) ∷ Var 0 ∷ [])) (Fam (after 0)))
+    ∷ Con (after 0) 0
+    ∷ Lam (Fam (after 0)) (Lam (Fam (after 0)) (Lam (applied (Fam (after 1)) (Fam (after 0) ∷ Var 1 ∷ [])) (Lam (Fam (after 0)) (App (Con (after 0) 1) (Var 0)))))
     ∷ n
     ∷ v
     ∷ [])
@@ -92,36 +93,36 @@ length_of n v =
 zeros : Term
 unfolding number
 zeros =
-    applied (Con 47 1)
-    (Fam 46 ∷ number 1 ∷ number 0 ∷ applied (Con 47 1) (Fam 46 ∷ number 0 ∷ number 0 ∷ App (Con 47 0) (Fam 46) ∷ []) ∷ [])
+    applied (Con (after 1) 1)
+    (Fam (after 0) ∷ number 1 ∷ number 0 ∷ applied (Con (after 1) 1) (Fam (after 0) ∷ number 0 ∷ number 0 ∷ App (Con (after 1) 0) (Fam (after 0)) ∷ []) ∷ [])
 
 -- the length of the path at the branches numbered zero
 depth : Term → Term
 depth t =
-    applied (Elim 48 0)
-    (Lam (Fam 48) (Fam 46)
-    ∷ Con 46 0
-    ∷ Lam (Pi (Fam 46) (Fam 48)) (Lam (Pi (Fam 46) (Fam 46)) (App (Con 46 1) (App (Var 0) (Con 46 0))))
+    applied (Elim (after 2) 0)
+    (Lam (Fam (after 2)) (Fam (after 0))
+    ∷ Con (after 0) 0
+    ∷ Lam (Pi (Fam (after 0)) (Fam (after 2))) (Lam (Pi (Fam (after 0)) (Fam (after 0))) (App (Con (after 0) 1) (App (Var 0) (Con (after 0) 0))))
     ∷ t
     ∷ [])
 
 branching : Term
-branching = App (Con 48 1) (Lam (Fam 46) (App (Con 48 1) (Lam (Fam 46) (Con 48 0))))
+branching = App (Con (after 2) 1) (Lam (Fam (after 0)) (App (Con (after 2) 1) (Lam (Fam (after 0)) (Con (after 2) 0))))
 
 -- Eq.0 Nat a b
 equal : Term → Term → Term
-equal a b = applied (Fam 1) (Fam 46 ∷ a ∷ b ∷ [])
+equal a b = applied (Fam 1) (Fam (after 0) ∷ a ∷ b ∷ [])
 
 reflexivity_at : Term → Term
-reflexivity_at a = applied (Con 1 0) (Fam 46 ∷ a ∷ [])
+reflexivity_at a = applied (Con 1 0) (Fam (after 0) ∷ a ∷ [])
 
 by_equality : Term
 unfolding number equal reflexivity_at
 by_equality =
     applied (Elim 1 0)
-    (Fam 46
+    (Fam (after 0)
     ∷ number 0
-    ∷ Lam (Fam 46) (Lam (equal (number 0) (Var 0)) (Fam 46))
+    ∷ Lam (Fam (after 0)) (Lam (equal (number 0) (Var 0)) (Fam (after 0)))
     ∷ number 1
     ∷ number 0
     ∷ reflexivity_at (number 0)
@@ -131,7 +132,7 @@ by_k : Term
 unfolding number equal reflexivity_at
 by_k =
     applied (AxiomK 0 0)
-    (Fam 46 ∷ number 0 ∷ Lam (equal (number 0) (number 0)) (Fam 46) ∷ number 1 ∷ reflexivity_at (number 0) ∷ [])
+    (Fam (after 0) ∷ number 0 ∷ Lam (equal (number 0) (number 0)) (Fam (after 0)) ∷ number 1 ∷ reflexivity_at (number 0) ∷ [])
 
 -- Against another implementation: `Eq.0 Nat b b` and `Eq.0 Nat a b`.
 
@@ -178,19 +179,19 @@ zeta : convertible_of (sample false) nesting (Let (Sort 1) (Sort 0) (Pi (Var 0) 
 unfolding native.Mathlib.Decide.ℕ_discrete sample
 zeta = refl
 
-zeta_without_delta : whnf_of (sample false) false 10 (Let (Sort 1) (Const 49) (Var 0)) ≡ answered (Ok (Const 49)) 9
+zeta_without_delta : whnf_of (sample false) false 10 (Let (Sort 1) (Const (after 3)) (Var 0)) ≡ answered (Ok (Const (after 3))) 9
 unfolding sample
 zeta_without_delta = refl
 
-zeta_with_delta : whnf_of (sample false) true 10 (Let (Sort 1) (Const 49) (Var 0)) ≡ answered (Ok (Pi (Sort 0) (Sort 0))) 8
+zeta_with_delta : whnf_of (sample false) true 10 (Let (Sort 1) (Const (after 3)) (Var 0)) ≡ answered (Ok (Pi (Sort 0) (Sort 0))) 8
 unfolding sample
 zeta_with_delta = refl
 
-provisional_rests : head_step_of (sample false) true (Const 50) 10 ≡ answered (Ok None) 10
+provisional_rests : head_step_of (sample false) true (Const (after 4)) 10 ≡ answered (Ok None) 10
 unfolding sample
 provisional_rests = refl
 
-provisional_differs : convertible_of (sample false) nesting (App (Lam (Sort 1) (Var 0)) (Const 50)) (Const 50) 10 ≡ answered (Ok false) 8
+provisional_differs : convertible_of (sample false) nesting (App (Lam (Sort 1) (Var 0)) (Const (after 4))) (Const (after 4)) 10 ≡ answered (Ok false) 8
 unfolding native.Mathlib.Decide.ℕ_discrete sample
 provisional_differs = refl
 

@@ -1,5 +1,5 @@
 -- Whether there is a step, decided by tests on heads and on numbers of arguments.
-use Rattle.std.proofs.Common.{◌≡◌, ℕ, ◌+◌, ◌<◌, ◌≤◌, min, Bool, true, false, cond, ◌&&◌, ◌||◌, ◌==◌, nat_eq, Option, Some, None, is_some, IfSome, option_and_then, List, [], ◌∷◌, length, take, drop, slice_get, refl, sym, ap, ap₂, ◌∙◌, subst as transport, arith}
+use Rattle.std.proofs.Common.{◌≡◌, ℕ, ◌+◌, ◌<◌, ◌≤◌, min, Bool, true, false, cond, ◌&&◌, ◌||◌, ◌==◌, nat_eq, Option, Some, None, is_some, option_and_then, List, [], ◌∷◌, length, take, drop, slice_get, refl, sym, ap, ap₂, ◌∙◌, arith}
 use Rattle.std.proofs.lemmas.Bool.Decides.{Decides-eqb}
 use Rattle.std.proofs.lemmas.List.{length-take, length-drop}
 use Rattle.std.proofs.lemmas.Option.{slice_get_within, slice_get-get_or}
@@ -13,7 +13,7 @@ use Rattle.kernel_reduce.specs.Identities.{has_k_at}
 use Rattle.kernel_reduce.specs.Steps.{beta_step, fills, awaits_scrutinee, method_applied, iota_at, iota_step, k_step, contraction, scrutinee_step, elimination_step, first_of, application_step, step_of}
 use Rattle.kernel_reduce.specs.Tests.{is_function, constructor_takes, family_takes, meets}
 use Rattle.kernel_reduce.proofs.SpineLengths.{spine_fits}
-use Rattle.kernel_reduce.proofs.StepLaws.{both-true, some-cond}
+use Rattle.kernel_reduce.proofs.StepLaws.{both-true}
 
 -- a low term's arguments are counted exactly
 pub count-exact : (t : Term) (count : ℕ) → count ≡ min (length (spine_of t)) 2001 → height t ≤ 2000 → count ≡ length (spine_of t)
@@ -124,26 +124,3 @@ application-some S f u None inner =
 pub application_tested : (S : Signature) (delta : Bool) (f u : Term) → is_some (step_of S delta (App f u))
     ≡ (is_some (step_of S delta f) || (is_function f || (awaits_scrutinee S (head_of f) (spine_of f) && (is_some (step_of S delta u) || meets S (head_of f) (head_of u) (length (spine_of u))))))
 application_tested S delta f u = application-some S f u (step_of S delta f) (step_of S delta u)
-
-none-of : {A : Type 0} (o : Option A) → false ≡ is_some o → o ≡ None
-none-of (Some a) e = absurd (grind arith)
-none-of None e = refl
-
--- where neither part of an application steps, and the first one is no function, it contracts
-pub must_contract : (S : Signature) (delta : Bool) (t f u : Term) → t ≡ App f u → is_some (step_of S delta t) ≡ true → false ≡ is_some (step_of S delta f) → false ≡ is_function f
-    → false ≡ is_some (step_of S delta u) → (awaits_scrutinee S (head_of f) (spine_of f) ≡ true) × (meets S (head_of f) (head_of u) (length (spine_of u)) ≡ true)
-must_contract S delta t f u e takes outer function inner =
-    both-true (awaits_scrutinee S (head_of f) (spine_of f)) (meets S (head_of f) (head_of u) (length (spine_of u)))
-    (ap₂ (λ a b. a || (b || (awaits_scrutinee S (head_of f) (spine_of f) && meets S (head_of f) (head_of u) (length (spine_of u))))) outer function
-    ∙ (ap (λ c. is_some (step_of S delta f) || (is_function f || (awaits_scrutinee S (head_of f) (spine_of f) && (c || meets S (head_of f) (head_of u) (length (spine_of u)))))) inner
-    ∙ (sym (application_tested S delta f u) ∙ (ap (λ x. is_some (step_of S delta x)) (sym e) ∙ takes))))
-
--- and its step is the contraction
-pub step-contracts : (S : Signature) (delta : Bool) (P : Term → Type 0) (t f u : Term) → t ≡ App f u → false ≡ is_some (step_of S delta f) → false ≡ is_function f
-    → false ≡ is_some (step_of S delta u) → IfSome (contraction S (head_of f) (spine_of f) (head_of u) (spine_of u)) P → IfSome (step_of S delta t) P
-step-contracts S delta P t f u e outer function inner h =
-    transport (λ x. IfSome (step_of S delta x) P) (sym e)
-    (transport (λ o. IfSome (application_step S f u o (step_of S delta u)) P) (sym (none-of (step_of S delta f) outer))
-    (transport (λ o. IfSome (application_step S f u None o) P) (sym (none-of (step_of S delta u) inner))
-    (transport (λ o. IfSome (first_of o (elimination_step S f u None)) P) (sym (none-of (beta_step f u) (function ∙ sym (beta-some f u))))
-    (some-cond P (awaits_scrutinee S (head_of f) (spine_of f)) _ (λ full. h)))))

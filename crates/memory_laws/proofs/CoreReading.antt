@@ -1,13 +1,13 @@
 -- The reading of core files.
 use Rattle.std.proofs.Common.{◌≢◌, ℕ, zero, suc, ◌+◌, Bool, true, false, cond, if◌then◌else◌, Option, Some, None, Result, Ok, Err, List, [], ◌∷◌, length, take, drop, codes, IfErr, subst as transport}
 use Rattle.std.specs.Str.{chars, is_utf8}
-use Rattle.theory.specs.Terms.{Term}
+use Rattle.theory.specs.Terms.{Term, top}
 use Rattle.theory.specs.Terms.Term.{App, Fam, Lam, Let, Pi, Sort, Var}
 use Rattle.theory.specs.Signatures.{Signature}
 use Rattle.core_sig.specs.Raw.{RawConstructor}
 use Rattle.core_text.specs.RawEntries.{RawAxiomK, RawDefinition, RawEliminator, RawEntry, RawFamilyOf}
 use Rattle.core_text.specs.Reading.{Reading, past, read_index, read_level, level_from, one_digit}
-use Rattle.core_text.specs.TermReading.{after_argument, after_first, argument_of, arguments_from, as_term, closed_by, enclosed_at, function_at, known, let_at, limited, most, named, product_from, read_term, sort_at, sort_levels, spine_from, term_after, term_at, variable_at}
+use Rattle.core_text.specs.TermReading.{after_argument, after_first, argument_of, arguments_from, as_term, closed_by, enclosed_at, function_at, known, let_at, limited, most, named, product_from, read_term, sort_at, spine_from, term_after, term_at, variable_at}
 use Rattle.core_text.specs.DeclaredNames.{by_shape, marked, may_declare, new_name, shape_by}
 use Rattle.core_text.specs.NameRuns.{run_len}
 use Rattle.core_text.specs.SymbolLookup.{symbol}
@@ -76,7 +76,7 @@ variable zero rest = no (λ size. tt)
 variable (suc n) rest = numbered Var _ (index (suc n) (drop 1 rest))
 
 sort : (rest : List ℕ) → Placed (sort_at rest)
-sort rest = and-then (at-word (codes " ") rest) (λ r. numbered Sort _ (level sort_levels r))
+sort rest = and-then (at-word (codes " ") rest) (λ r. numbered Sort _ (index (top + 1) r))
 
 a-name : (look : List ℕ → Option Term) (n : ℕ) (rest : List ℕ) → Placed (named look n rest)
 a-name look n rest = if-else _ (sort (drop n rest)) (symbol-known (look (take n rest)) rest (drop n rest))

@@ -3,11 +3,13 @@ pub mod Applying
 pub mod CallLaws
 pub mod ComparedParts
 pub mod ContractionLaws
+pub mod Correspondents
 pub mod FormedParts
 pub mod Forming
 pub mod HeadPairs
 pub mod HeadTests
 pub mod Inside
+pub mod ManySteps
 pub mod NormalAdding
 pub mod NormalPairs
 pub mod OneStep

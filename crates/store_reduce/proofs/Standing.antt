@@ -1,6 +1,6 @@
 -- What is found by entry ids that stand for the entries of a signature: bodies of definitions, and types of constructors.
-use Rattle.std.proofs.Common.{◌≡◌, ℕ, zero, suc, ◌<◌, ◌≤◌, cond, IsTrue, Option, None, Some, option_map, option_and_then, List, [], ◌∷◌, length, get_or, slice_get, ◌⊎◌, inl, inr, refl, sym, ap, ◌∙◌, subst as transport, arith}
-use Rattle.std.proofs.lemmas.Option.{slice_get_within, slice_get_past, slice_get_cases, slice_get-map, slice_get-get_or}
+use Rattle.std.proofs.Common.{◌≡◌, ℕ, ◌<◌, ◌≤◌, cond, IsTrue, Option, None, Some, option_map, option_and_then, length, get_or, slice_get, ◌⊎◌, inl, inr, refl, sym, ap, ◌∙◌, subst as transport, arith}
+use Rattle.std.proofs.lemmas.Option.{slice_get_within, slice_get_cases, slice_get-map, slice_get-get_or}
 use Rattle.theory.specs.Signatures.{Entry, FamilyOf, EliminatorAt, AxiomKAt, Definition, Signature, IsEntryAt}
 use Rattle.theory.proofs.Lists.{some_is}
 use Rattle.core_sig.specs.EntryIds.{IsIdOf, IsBodyId, Correspond, IsConstructorId, StandsAt, Stands, type_behind}
@@ -19,11 +19,7 @@ use Rattle.term_pool.specs.Held.{Held}
 use Rattle.store_reduce.specs.Arguments.{IsOver}
 use Rattle.store_reduce.specs.EntryIds.{body_id, constructor_ids, behind_id}
 use Rattle.store_reduce.proofs.CallLaws.{over-products}
-
-none-beyond : {A : Type 0} (xs : List A) (n : ℕ) → slice_get xs n ≡ None → length xs ≤ n
-none-beyond [] n h = omega arith
-none-beyond (x ∷ xs) zero h = absurd (grind arith)
-none-beyond (x ∷ xs) (suc n) h = let k = none-beyond xs n h in omega arith
+use Rattle.store_reduce.proofs.Correspondents.{first-past, second-at}
 
 module _ {I : Type 0} where
   body-from : (held : Held I) (n : ℕ) (e : Entry) (o : Option I) → IsBodyId held e o
@@ -40,22 +36,11 @@ module _ {I : Type 0} where
   body-is_live held (EliminatorAt n m) b h = absurd (grind arith)
   body-is_live held (AxiomKAt i m) b h = absurd (grind arith)
 
-  entry-there : (held : Held I) (S : Signature) (ids : EntryIds I) (n : ℕ) (id : EntryId I) → Stands held S.entries ids → slice_get ids.entries.items n ≡ Some id
-      → (e : Entry) × IsEntryAt S n e × StandsAt held S.entries n e id
-  entry-there held S ids n id s there = by_case (slice_get S.entries n) refl
-    where
-      by_case : (o : Option Entry) → slice_get S.entries n ≡ o → (e : Entry) × IsEntryAt S n e × StandsAt held S.entries n e id
-      by_case (Some e) at = (e, at, s.each.each n e id at there)
-      by_case None at =
-          let beyond = none-beyond S.entries n at in
-          let within = slice_get_within ids.entries.items n id there in
-          absurd (omega (arith, s.each.count))
-
   body-found : (held : Held I) (S : Signature) (ids : EntryIds I) (n : ℕ) (id : EntryId I) → Stands held S.entries ids → slice_get ids.entries.items n ≡ Some id
       → body_at S n ≡ option_and_then (λ b. cond (is_constant n b) None (Some b)) (option_map held.tree id.body)
   body-found held S ids n id s there =
-      let found = entry-there held S ids n id s there in
-      ap (option_and_then (body_in n)) found.1 ∙ body-from held n found.0 id.body (found.2).body
+      let found = second-at (StandsAt held S.entries) S.entries ids.entries.items s.each n id there in
+      ap (option_and_then (body_in n)) found.1.0 ∙ body-from held n found.0 id.body (found.1.1).body
 
   -- the body of a constant, by the id that stands for it
   pub body-some : (held : Held I) (S : Signature) (ids : EntryIds I) (n : ℕ) (b : I) → Stands held S.entries ids → body_id ids n ≡ Some b
@@ -72,9 +57,7 @@ module _ {I : Type 0} where
   body-none held S ids n s e = by_case (slice_get ids.entries.items n) refl e
     where
       by_case : (o : Option (EntryId I)) → slice_get ids.entries.items n ≡ o → option_and_then (λ id. id.body) o ≡ None → body_at S n ≡ None
-      by_case None there f =
-          let beyond = none-beyond ids.entries.items n there in
-          ap (option_and_then (body_in n)) (slice_get_past S.entries n (omega (arith, s.each.count)))
+      by_case None there f = ap (option_and_then (body_in n)) (first-past (StandsAt held S.entries) S.entries ids.entries.items s.each n there)
       by_case (Some id) there f =
           body-found held S ids n id s there ∙ ap (λ o. option_and_then (λ b. cond (is_constant n b) None (Some b)) (option_map held.tree o)) f
 
@@ -84,8 +67,8 @@ module _ {I : Type 0} where
       by_case : (o : Option (EntryId I)) → slice_get ids.entries.items n ≡ o → option_and_then (λ id. id.body) o ≡ Some b → IsTrue (held.live b)
       by_case None there f = absurd (grind (arith, f))
       by_case (Some id) there f =
-          let found = entry-there held S ids n id s there in
-          body-is_live held found.0 b (transport (IsBodyId held found.0) f (found.2).body)
+          let found = second-at (StandsAt held S.entries) S.entries ids.entries.items s.each n id there in
+          body-is_live held found.0 b (transport (IsBodyId held found.0) f (found.1.1).body)
 
 pub constructors-at : (f : Family) (number : ℕ) → slice_get (family_of f).constructors number ≡ option_map (constructor_of (length f.params)) (slice_get f.cons number)
 constructors-at f number = slice_get-map (constructor_of (length f.params)) f.cons number

@@ -6,3 +6,4 @@ pub mod Formers
 pub mod Forms
 pub mod Places
 pub mod Runs
+pub mod Several

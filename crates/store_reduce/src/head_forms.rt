@@ -42,5 +42,5 @@ pub(crate) fn head_form_in<S: TermStore>(
     ensures sum { units.new.left + units.new.spent ≡ units.old.left + units.old.spent }
     ensures spends { units.new.left ≤ units.old.left }
 {
-    Ok(reduce_in(alloc, store, sig, ids, t, delta, 0, units)?.id)
+    Ok(reduce_in(alloc, store, sig, ids, t, delta, 0, true, units)?.id)
 }

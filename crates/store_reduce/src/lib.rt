@@ -13,6 +13,7 @@ mod nodes;
 mod normalising;
 mod ordering;
 mod reducing;
+mod several;
 mod spines;
 mod testing;
 mod turns;

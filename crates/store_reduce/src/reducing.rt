@@ -13,6 +13,7 @@ ghost use Rattle.store_reduce.specs.Places.{whnf_at};
 ghost use Rattle.store_reduce.specs.Runs.{RunsIn};
 
 use crate::form::{Form, Turn};
+use crate::several::{filling_at, several_turn};
 use crate::testing::awaits_scrutinee_in;
 use crate::turns::{beta_turn, body_of_function, let_turn, meet_in, rest_turn, symbol, unfold_in};
 use core_sig::{EntryIds, Signature};
@@ -20,7 +21,8 @@ use core_terms::{MAX_HEIGHT, Stop, Units};
 use std::alloc::Global;
 use term_pool::{Node, TermStore};
 
-/// Takes head steps until there is none, in a term so many parts below the whole.
+/// Takes head steps until there is none, in a term so many parts below the whole. Where it is not the function part of an application,
+/// several steps may be taken at once.
 #[cycle(reduce)]
 pub(crate) fn reduce_in<S: TermStore>(
     alloc: Global,
@@ -30,6 +32,7 @@ pub(crate) fn reduce_in<S: TermStore>(
     t: S::Id,
     delta: bool,
     depth: u32,
+    whole: bool,
     units: &mut Units,
 ) -> Result<Form<S::Id>, Stop>
     requires live { IsTrue ((S.held store.old).live t) }
@@ -47,14 +50,16 @@ pub(crate) fn reduce_in<S: TermStore>(
     ensures spends { units.new.left ≤ units.old.left }
 {
     let mut moved = false;
+    let mut whole = whole;
     let mut t = t;
     'turns: loop {
-        let turn = turn_in(alloc, store, sig, ids, t, delta, depth, units)?;
+        let turn = turn_in(alloc, store, sig, ids, t, delta, depth, whole, units)?;
         match turn {
             Turn::Rests(form) => return Ok(moved_form(form, moved)),
             Turn::Goes(next) => {
                 t = next;
                 moved = true;
+                whole = true;
             }
         }
     }
@@ -83,6 +88,7 @@ fn turn_in<S: TermStore>(
     t: S::Id,
     delta: bool,
     depth: u32,
+    whole: bool,
     units: &mut Units,
 ) -> Result<Turn<S::Id>, Stop>
     requires live { IsTrue ((S.held store.old).live t) }
@@ -106,7 +112,10 @@ fn turn_in<S: TermStore>(
         return Err(Stop::Deep);
     }
     match store.look(&t) {
-        Node::App(f, u) => application_turn(alloc, store, sig, ids, t, f, u, delta, depth, units),
+        Node::App(f, u) => match filling_at(store, sig, ids, t, delta, depth, whole, units.left) {
+            Some(filling) => several_turn(alloc, store, sig, t, filling, delta, depth, units),
+            None => application_turn(alloc, store, sig, ids, t, f, u, delta, depth, units),
+        },
         Node::Let(_, v, b) => let_turn(alloc, store, sig, t, v, b, delta, depth, units),
         Node::Const(n) => unfold_in(store, sig, ids, t, n, delta, depth, units),
         Node::Var(_)
@@ -156,7 +165,7 @@ fn application_turn<S: TermStore>(
     ensures sum { units.new.left + units.new.spent ≡ units.old.left + units.old.spent }
     ensures spends { units.new.left ≤ units.old.left }
 {
-    let form = reduce_in(alloc, store, sig, ids, f, delta, depth + 1, units)?;
+    let form = reduce_in(alloc, store, sig, ids, f, delta, depth + 1, false, units)?;
     apply_in(alloc, store, sig, ids, t, form, u, delta, depth, units)
 }
 
@@ -287,6 +296,6 @@ fn scrutinee_turn<S: TermStore>(
     ensures sum { units.new.left + units.new.spent ≡ units.old.left + units.old.spent }
     ensures spends { units.new.left ≤ units.old.left }
 {
-    let u = reduce_in(alloc, store, sig, ids, u, delta, depth + 1, units)?;
+    let u = reduce_in(alloc, store, sig, ids, u, delta, depth + 1, true, units)?;
     meet_in(alloc, store, sig, ids, t, f, u, delta, depth, units)
 }

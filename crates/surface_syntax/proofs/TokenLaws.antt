@@ -23,7 +23,7 @@ use Rattle.surface_syntax.specs.declared.token.TokenKind.TheVariants as kind
 use Rattle.surface_syntax.proofs.Prefixes as pre
 use Rattle.surface_syntax.proofs.FirstTokens.{reach, if_true, if_false, zero_lt, name_front, name_some, number_some, no_name, mark_front, number_no_name, spelled_front}
 use Rattle.surface_syntax.proofs.TokenViews as v
-use Rattle.surface_syntax.proofs.TokenViews.{View, view, named, piece_is, other_is, short_tail, zero_eq, more_eq}
+use Rattle.surface_syntax.proofs.TokenViews.{View, view, named, piece_is, other_is, short_tail, more_eq}
 
 -- a spelling alone is found with its kind and its limit
 not_blank : (c : ℕ) → is_xid_start c ≡ true → is_blank c ≡ false

@@ -4,7 +4,6 @@ use Rattle.std.proofs.lemmas.List.{append-nil}
 use Rattle.std.specs.Prelude.{Option, Some, None}
 use Rattle.surface_syntax.specs.Trees as tree
 use Rattle.surface_syntax.specs.Grammar as g
-use Rattle.surface_syntax.specs.Grammar.{applied}
 use Rattle.surface_syntax.specs.Machine as m
 use Rattle.surface_syntax.specs.declared.tree.Word.{Word}
 use Rattle.surface_syntax.specs.declared.lexeme.Lexeme.{Lexeme}

@@ -5,10 +5,9 @@ use Rattle.std.proofs.lemmas.List.{length-map, get_or-map}
 use Rattle.std.proofs.lemmas.List.Elements.{All-tail}
 use Rattle.std.specs.List.{All}
 use Rattle.theory.specs.Terms.{Term, lift, free_of}
-use Rattle.theory.specs.Terms.Term.{Var, Sort, Pi, Lam, App, Let}
-use Rattle.theory.specs.Eliminators.{no_variable}
-use Rattle.core_terms.specs.Instances.{under_binders, instance_of}
-use Rattle.core_terms.proofs.Instances.{instance-is_inst, under-low}
+use Rattle.theory.specs.Terms.Term.{Var}
+use Rattle.core_terms.specs.Instances.{under_binders, instance_with}
+use Rattle.core_terms.proofs.Instances.{with-is_inst, with-none, under-low}
 use Rattle.theory.specs.Substitutions.{extend, fill}
 use Rattle.theory.proofs.Instantiation.{inst-scoped}
 use Rattle.core_terms.specs.declared.stop.Stop.{Stop}
@@ -38,10 +37,10 @@ module _ {I : Type 0} where
   keeps-values old new ids e v = record { values = values-kept old new ids e v; trees = trees-kept old new ids e v }
 
 -- a tree without variables beyond the binders stays as it is
-pub instance-scoped : (values : List Term) (under : ℕ) (t : Term) → free_of t ≤ under → instance_of values under t ≡ t
-instance-scoped values under t h =
-    instance-is_inst values under t
-    ∙ inst-scoped (under_binders under (fill no_variable values)) t under (λ i low. sym (under-low under i (fill no_variable values) low)) h
+pub instance-scoped : (s : ℕ → Term) (values : List Term) (under : ℕ) (t : Term) → free_of t ≤ under → instance_with s values under t ≡ t
+instance-scoped s values under t h =
+    with-is_inst s values under t
+    ∙ inst-scoped (under_binders under (fill s values)) t under (λ i low. sym (under-low under i (fill s values) low)) h
 
 fill-beyond : (s : ℕ → Term) (us : List Term) (v : ℕ) → length us ≤ v → fill s us v ≡ s (v - length us)
 fill-beyond s [] v h = ap s (omega arith)
@@ -65,30 +64,32 @@ fill-among s (u ∷ us) v d h = go (nat_lt v (length us)) refl (fill-among (exte
         let place : 0 ≡ length (u ∷ us) - 1 - v = omega arith in
         fill-beyond (extend s u) us v high ∙ (ap (extend s u) last ∙ ap (λ n. get_or (u ∷ us) n d) place)
 
-module _ {I : Type 0} where
+module _ {I : Type 0} (s : ℕ → Term) where
   pub value-is : (held : Held I) (ids : List I) (under n : ℕ) (v : I) → under ≤ n → n - under < length ids → v ≡ get_or ids (length ids - 1 - (n - under)) v
-      → lift (held.tree v) under 0 ≡ under_binders under (fill no_variable (trees_of held ids)) n
+      → lift (held.tree v) under 0 ≡ under_binders under (fill s (trees_of held ids)) n
   unfolding under_binders trees_of
   value-is held ids under n v high low e = go (nat_lt n under) refl
     where
-      go : (b : Bool) → nat_lt n under ≡ b → lift (held.tree v) under 0 ≡ cond b (Var n) (lift (fill no_variable (map held.tree ids) (n - under)) under 0)
+      go : (b : Bool) → nat_lt n under ≡ b → lift (held.tree v) under 0 ≡ cond b (Var n) (lift (fill s (map held.tree ids) (n - under)) under 0)
       go true h = absurd (grind (arith, nat_tests))
       go false h =
           let count = length-map ids held.tree in
           ap (λ t. lift t under 0)
-          (sym (fill-among no_variable (map held.tree ids) (n - under) (held.tree v) (omega arith)
+          (sym (fill-among s (map held.tree ids) (n - under) (held.tree v) (omega arith)
           ∙ (ap (λ k. get_or (map held.tree ids) (k - 1 - (n - under)) (held.tree v)) count
           ∙ (get_or-map held.tree ids (length ids - 1 - (n - under)) v (held.tree v) (omega arith) ∙ ap held.tree (sym e)))))
 
-  pub value-none : (held : Held I) (ids : List I) (under n : ℕ) → under ≤ n → length ids ≤ n - under → Sort 0 ≡ under_binders under (fill no_variable (trees_of held ids)) n
+  pub value-beyond : (held : Held I) (ids : List I) (under n : ℕ) → under ≤ n → length ids ≤ n - under
+      → lift (s (n - under - length ids)) under 0 ≡ under_binders under (fill s (trees_of held ids)) n
   unfolding under_binders trees_of
-  value-none held ids under n high past = go (nat_lt n under) refl
+  value-beyond held ids under n high past = go (nat_lt n under) refl
     where
-      go : (b : Bool) → nat_lt n under ≡ b → Sort 0 ≡ cond b (Var n) (lift (fill no_variable (map held.tree ids) (n - under)) under 0)
+      go : (b : Bool) → nat_lt n under ≡ b → lift (s (n - under - length ids)) under 0 ≡ cond b (Var n) (lift (fill s (map held.tree ids) (n - under)) under 0)
       go true h = absurd (grind (arith, nat_tests))
       go false h =
           let count = length-map ids held.tree in
-          ap (λ t. lift t under 0) (sym (fill-beyond no_variable (map held.tree ids) (n - under) (omega arith)))
+          ap (λ t. lift t under 0)
+          (ap (λ k. s (n - under - k)) (sym count) ∙ sym (fill-beyond s (map held.tree ids) (n - under) (omega arith)))
 
 -- a tree that is low enough, or is too high, is so under binders too
 pub makes-under : {I : Type 0} (under : ℕ) (held : Held I) (result : Result I Stop) (meant : Term) → Makes held result meant → MakesUnder under held result meant
@@ -98,3 +99,5 @@ makes-under under held (Err e) meant made = λ memory full. let deep = made memo
 pub ruleset instance_laws = (values-kept, trees-kept)
 
 pub ruleset value_laws = (keeps-values, under-low)
+
+pub ruleset all_laws = (with-none)

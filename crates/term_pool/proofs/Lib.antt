@@ -1,6 +1,7 @@
 pub mod Instancing
 pub mod Layering
 pub mod Memos
+pub mod Places
 pub mod Pooling
 pub mod Putting
 pub mod Regions

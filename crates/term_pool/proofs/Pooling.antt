@@ -26,7 +26,7 @@ module _ {X : Type 0} (test : X → Bool) (d : X) (xs : List X) (x : X) where
       (s.0, unwrap_or-slice_get xs i d ∙ sym (sound (slice_index_or xs i d) s.1))
 
   -- and one that is not found is nowhere
-  missing : list_any test xs ≡ false → test x ≡ true → (i : ℕ) → i < length xs → unwrap_or (slice_get xs i) d ≢ x
+  pub missing : list_any test xs ≡ false → test x ≡ true → (i : ℕ) → i < length xs → unwrap_or (slice_get xs i) d ≢ x
   missing h whole i less e =
       let here : slice_index_or xs i d ≡ x = sym (unwrap_or-slice_get xs i d) ∙ e in
       true≢false (sym (list_any_at test xs i d less (subst (λ y. test y ≡ true) (sym here) whole)) ∙ h)

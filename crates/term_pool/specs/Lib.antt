@@ -1,3 +1,4 @@
+pub mod Hashing
 pub mod Held
 pub mod Instantiation
 pub mod Layers
@@ -6,6 +7,7 @@ pub mod Memo
 pub mod NodeFacts
 pub mod Nodes
 pub mod Parts
+pub mod Placing
 pub mod Pools
 pub mod Shelves
 pub mod Shifts

@@ -1,19 +1,51 @@
-ghost use Rattle.std.specs.Prelude.{◌≤◌, ◌+◌, IsTrue};
-ghost use Rattle.core_terms.specs.Instances.{instance_of, under_binders};
-ghost use Rattle.theory.specs.Eliminators.{no_variable};
-ghost use Rattle.theory.specs.Substitutions.{fill};
+ghost use Rattle.std.specs.Prelude.{◌≤◌, ◌<◌, ◌+◌, ◌^◌, IsTrue};
+ghost use Rattle.core_terms.specs.Instances.{instance_of, instance_with, under_binders};
+ghost use Rattle.theory.specs.Substitutions.{fill, inst};
+ghost use Rattle.theory.specs.Terms.{Var};
 ghost use Rattle.theory.specs.Terms as tree;
 ghost use Rattle.indexmap.specs.IndexMap.{values as rows_in};
 ghost use Rattle.term_pool.specs.Held.{Extends, AddsParts, Makes, MakesUnder, IsFullFor};
 ghost use Rattle.term_pool.specs.Nodes.{says, AllPass};
-ghost use Rattle.term_pool.specs.Instantiation.{AreValues, Instances, KeepsValues, trees_of};
+ghost use Rattle.term_pool.specs.Instantiation.{AreValues, Instances, KeepsValues, beyond_of, trees_of};
 
-use crate::shifts::{Shift, Shifts, keep, known};
+use crate::hashing::by_word;
+use crate::shifts::{Shift, Shifts, is_quick, keep, known};
 use crate::substitution::lift_low;
 use crate::{Node, TermStore};
 use core_terms::Stop;
 use indexmap::IndexMap;
 use std::alloc::Global;
+
+/// What stands for a variable beyond those that have values.
+#[derive(Clone, Copy, Debug, PartialEq, Eq)]
+pub(crate) enum Beyond {
+    /// `Type 0`.
+    Nothing,
+    /// The variable with the number that it has without those.
+    Itself,
+}
+
+/// Puts values for the nearest variables of a term, the last one for the nearest, and lowers greater variables by their number. It is what
+/// `subst_in` gives for one value after the other, the outermost variable first. The time goes by the number of different parts and depths.
+#[tactic(auto, using(crate::proofs::Instancing::all_laws))]
+pub fn subst_all_in<S: TermStore>(
+    alloc: Global,
+    store: &mut S,
+    values: &[S::Id],
+    t: S::Id,
+) -> Result<S::Id, Stop>
+    requires live { IsTrue ((S.held store.old).live t) }
+    requires values { AreValues (S.held store.old) values.now }
+    ensures makes { Makes (S.held store.new) result (inst (fill Var (trees_of (S.held store.old) values.now)) ((S.held store.old).tree t)) }
+    ensures full { IsFullFor (S.held store.new) result (inst (fill Var (trees_of (S.held store.old) values.now)) ((S.held store.old).tree t)) }
+    ensures extends { Extends (S.held store.old) (S.held store.new) }
+    ensures adds { AddsParts (S.held store.old) (S.held store.new) (inst (fill Var (trees_of (S.held store.old) values.now)) ((S.held store.old).tree t)) }
+    ensures keeps { KeepsValues (S.held store.old) (S.held store.new) values.now }
+{
+    let _low = store.bound(&t);
+    let mut table = IndexMap::with_hasher(alloc, by_word());
+    inst_at(alloc, store, &mut table, values, Beyond::Itself, t, 0)
+}
 
 /// Puts a value for every free variable of a term under so many binders: the last one for the nearest variable, and `Type 0` for a
 /// variable that no value stands for. Deep only where the outcome is too high under the binders. The time goes by the number of
@@ -34,8 +66,8 @@ pub fn inst_in<S: TermStore>(
     ensures adds { AddsParts (S.held store.old) (S.held store.new) (instance_of (trees_of (S.held store.old) values.now) under ((S.held store.old).tree t)) }
     ensures keeps { KeepsValues (S.held store.old) (S.held store.new) values.now }
 {
-    let mut table = IndexMap::new(alloc);
-    inst_at(alloc, store, &mut table, values, t, under)
+    let mut table = IndexMap::with_hasher(alloc, by_word());
+    inst_at(alloc, store, &mut table, values, Beyond::Nothing, t, under)
 }
 
 /// Puts the values for the variables under so many binders, with the answers so far in a table.
@@ -45,26 +77,30 @@ fn inst_at<S: TermStore>(
     store: &mut S,
     table: &mut Shifts<S::Id>,
     values: &[S::Id],
+    beyond: Beyond,
     t: S::Id,
     under: u32,
 ) -> Result<S::Id, Stop>
     requires live { IsTrue ((S.held store.old).live t) }
     requires values { AreValues (S.held store.old) values.now }
     requires binders { under + tree.height ((S.held store.old).tree t) ≤ 2000 }
-    requires table { Instances (trees_of (S.held store.old) values.now) (S.held store.old) (rows_in table.old) }
-    ensures makes { MakesUnder under (S.held store.new) result (instance_of (trees_of (S.held store.old) values.now) under ((S.held store.old).tree t)) }
-    ensures full { IsFullFor (S.held store.new) result (instance_of (trees_of (S.held store.old) values.now) under ((S.held store.old).tree t)) }
+    requires table { Instances (beyond_of beyond) (trees_of (S.held store.old) values.now) (S.held store.old) (rows_in table.old) }
+    ensures makes { MakesUnder under (S.held store.new) result (instance_with (beyond_of beyond) (trees_of (S.held store.old) values.now) under ((S.held store.old).tree t)) }
+    ensures full { IsFullFor (S.held store.new) result (instance_with (beyond_of beyond) (trees_of (S.held store.old) values.now) under ((S.held store.old).tree t)) }
     ensures extends { Extends (S.held store.old) (S.held store.new) }
-    ensures adds { AddsParts (S.held store.old) (S.held store.new) (instance_of (trees_of (S.held store.old) values.now) under ((S.held store.old).tree t)) }
+    ensures adds { AddsParts (S.held store.old) (S.held store.new) (instance_with (beyond_of beyond) (trees_of (S.held store.old) values.now) under ((S.held store.old).tree t)) }
     ensures keeps { KeepsValues (S.held store.old) (S.held store.new) values.now }
-    ensures table { Instances (trees_of (S.held store.old) values.now) (S.held store.new) (rows_in table.new) }
+    ensures table { Instances (beyond_of beyond) (trees_of (S.held store.old) values.now) (S.held store.new) (rows_in table.new) }
 {
     if store.bound(&t) <= under as u64 {
         return Ok(t);
     }
+    if is_quick(store.height(&t), under > 0) {
+        return inst_node(alloc, store, table, values, beyond, t, under);
+    }
     match known(store, table, &t, under as u64) {
         Some(answer) => Ok(answer),
-        None => inst_new(alloc, store, table, values, t, under),
+        None => inst_new(alloc, store, table, values, beyond, t, under),
     }
 }
 
@@ -75,21 +111,22 @@ fn inst_new<S: TermStore>(
     store: &mut S,
     table: &mut Shifts<S::Id>,
     values: &[S::Id],
+    beyond: Beyond,
     t: S::Id,
     under: u32,
 ) -> Result<S::Id, Stop>
     requires live { IsTrue ((S.held store.old).live t) }
     requires values { AreValues (S.held store.old) values.now }
     requires binders { under + tree.height ((S.held store.old).tree t) ≤ 2000 }
-    requires table { Instances (trees_of (S.held store.old) values.now) (S.held store.old) (rows_in table.old) }
-    ensures makes { MakesUnder under (S.held store.new) result (instance_of (trees_of (S.held store.old) values.now) under ((S.held store.old).tree t)) }
-    ensures full { IsFullFor (S.held store.new) result (instance_of (trees_of (S.held store.old) values.now) under ((S.held store.old).tree t)) }
+    requires table { Instances (beyond_of beyond) (trees_of (S.held store.old) values.now) (S.held store.old) (rows_in table.old) }
+    ensures makes { MakesUnder under (S.held store.new) result (instance_with (beyond_of beyond) (trees_of (S.held store.old) values.now) under ((S.held store.old).tree t)) }
+    ensures full { IsFullFor (S.held store.new) result (instance_with (beyond_of beyond) (trees_of (S.held store.old) values.now) under ((S.held store.old).tree t)) }
     ensures extends { Extends (S.held store.old) (S.held store.new) }
-    ensures adds { AddsParts (S.held store.old) (S.held store.new) (instance_of (trees_of (S.held store.old) values.now) under ((S.held store.old).tree t)) }
+    ensures adds { AddsParts (S.held store.old) (S.held store.new) (instance_with (beyond_of beyond) (trees_of (S.held store.old) values.now) under ((S.held store.old).tree t)) }
     ensures keeps { KeepsValues (S.held store.old) (S.held store.new) values.now }
-    ensures table { Instances (trees_of (S.held store.old) values.now) (S.held store.new) (rows_in table.new) }
+    ensures table { Instances (beyond_of beyond) (trees_of (S.held store.old) values.now) (S.held store.new) (rows_in table.new) }
 {
-    let answer = inst_node(alloc, store, table, values, t, under)?;
+    let answer = inst_node(alloc, store, table, values, beyond, t, under)?;
     let row = Shift {
         from: t,
         depth: under as u64,
@@ -106,41 +143,42 @@ fn inst_node<S: TermStore>(
     store: &mut S,
     table: &mut Shifts<S::Id>,
     values: &[S::Id],
+    beyond: Beyond,
     t: S::Id,
     under: u32,
 ) -> Result<S::Id, Stop>
     requires live { IsTrue ((S.held store.old).live t) }
     requires values { AreValues (S.held store.old) values.now }
     requires binders { under + tree.height ((S.held store.old).tree t) ≤ 2000 }
-    requires table { Instances (trees_of (S.held store.old) values.now) (S.held store.old) (rows_in table.old) }
-    ensures makes { MakesUnder under (S.held store.new) result (instance_of (trees_of (S.held store.old) values.now) under ((S.held store.old).tree t)) }
-    ensures full { IsFullFor (S.held store.new) result (instance_of (trees_of (S.held store.old) values.now) under ((S.held store.old).tree t)) }
+    requires table { Instances (beyond_of beyond) (trees_of (S.held store.old) values.now) (S.held store.old) (rows_in table.old) }
+    ensures makes { MakesUnder under (S.held store.new) result (instance_with (beyond_of beyond) (trees_of (S.held store.old) values.now) under ((S.held store.old).tree t)) }
+    ensures full { IsFullFor (S.held store.new) result (instance_with (beyond_of beyond) (trees_of (S.held store.old) values.now) under ((S.held store.old).tree t)) }
     ensures extends { Extends (S.held store.old) (S.held store.new) }
-    ensures adds { AddsParts (S.held store.old) (S.held store.new) (instance_of (trees_of (S.held store.old) values.now) under ((S.held store.old).tree t)) }
+    ensures adds { AddsParts (S.held store.old) (S.held store.new) (instance_with (beyond_of beyond) (trees_of (S.held store.old) values.now) under ((S.held store.old).tree t)) }
     ensures keeps { KeepsValues (S.held store.old) (S.held store.new) values.now }
-    ensures table { Instances (trees_of (S.held store.old) values.now) (S.held store.new) (rows_in table.new) }
+    ensures table { Instances (beyond_of beyond) (trees_of (S.held store.old) values.now) (S.held store.new) (rows_in table.new) }
 {
     match store.look(&t) {
-        Node::Var(n) => value_of_variable(alloc, store, values, n, under),
+        Node::Var(n) => value_of_variable(alloc, store, values, beyond, n, under),
         Node::Pi(domain, codomain) => {
-            let domain = inst_at(alloc, store, table, values, domain, under)?;
-            let codomain = inst_at(alloc, store, table, values, codomain, under + 1)?;
+            let domain = inst_at(alloc, store, table, values, beyond, domain, under)?;
+            let codomain = inst_at(alloc, store, table, values, beyond, codomain, under + 1)?;
             make_beside(store, values, Node::Pi(domain, codomain))
         }
         Node::Lam(domain, body) => {
-            let domain = inst_at(alloc, store, table, values, domain, under)?;
-            let body = inst_at(alloc, store, table, values, body, under + 1)?;
+            let domain = inst_at(alloc, store, table, values, beyond, domain, under)?;
+            let body = inst_at(alloc, store, table, values, beyond, body, under + 1)?;
             make_beside(store, values, Node::Lam(domain, body))
         }
         Node::App(function, argument) => {
-            let function = inst_at(alloc, store, table, values, function, under)?;
-            let argument = inst_at(alloc, store, table, values, argument, under)?;
+            let function = inst_at(alloc, store, table, values, beyond, function, under)?;
+            let argument = inst_at(alloc, store, table, values, beyond, argument, under)?;
             make_beside(store, values, Node::App(function, argument))
         }
         Node::Let(ty, value, rest) => {
-            let ty = inst_at(alloc, store, table, values, ty, under)?;
-            let value = inst_at(alloc, store, table, values, value, under)?;
-            let rest = inst_at(alloc, store, table, values, rest, under + 1)?;
+            let ty = inst_at(alloc, store, table, values, beyond, ty, under)?;
+            let value = inst_at(alloc, store, table, values, beyond, value, under)?;
+            let rest = inst_at(alloc, store, table, values, beyond, rest, under + 1)?;
             make_beside(store, values, Node::Let(ty, value, rest))
         }
         Node::Sort(_)
@@ -177,15 +215,16 @@ fn value_of_variable<S: TermStore>(
     alloc: Global,
     store: &mut S,
     values: &[S::Id],
+    beyond: Beyond,
     n: u32,
     under: u32,
 ) -> Result<S::Id, Stop>
     requires values { AreValues (S.held store.old) values.now }
     requires binders { under ≤ 2000 }
-    ensures makes { MakesUnder under (S.held store.new) result (under_binders under (fill no_variable (trees_of (S.held store.old) values.now)) n) }
-    ensures full { IsFullFor (S.held store.new) result (under_binders under (fill no_variable (trees_of (S.held store.old) values.now)) n) }
+    ensures makes { MakesUnder under (S.held store.new) result (under_binders under (fill (beyond_of beyond) (trees_of (S.held store.old) values.now)) n) }
+    ensures full { IsFullFor (S.held store.new) result (under_binders under (fill (beyond_of beyond) (trees_of (S.held store.old) values.now)) n) }
     ensures extends { Extends (S.held store.old) (S.held store.new) }
-    ensures adds { AddsParts (S.held store.old) (S.held store.new) (under_binders under (fill no_variable (trees_of (S.held store.old) values.now)) n) }
+    ensures adds { AddsParts (S.held store.old) (S.held store.new) (under_binders under (fill (beyond_of beyond) (trees_of (S.held store.old) values.now)) n) }
     ensures keeps { KeepsValues (S.held store.old) (S.held store.new) values.now }
 {
     if n < under {
@@ -195,6 +234,25 @@ fn value_of_variable<S: TermStore>(
     if place < values.len() {
         lift_low(alloc, store, values[values.len() - 1 - place], under)
     } else {
-        store.make(Node::Sort(0))
+        variable_beyond(store, beyond, place - values.len(), under)
+    }
+}
+
+/// What stands for a variable beyond those that have values, lifted by so many.
+fn variable_beyond<S: TermStore>(
+    store: &mut S,
+    beyond: Beyond,
+    place: usize,
+    under: u32,
+) -> Result<S::Id, Stop>
+    requires { place + under < 2 ^ 32 }
+    ensures makes { Makes (S.held store.new) result (tree.lift (beyond_of beyond place) under 0) }
+    ensures full { IsFullFor (S.held store.new) result (tree.lift (beyond_of beyond place) under 0) }
+    ensures extends { Extends (S.held store.old) (S.held store.new) }
+    ensures adds { AddsParts (S.held store.old) (S.held store.new) (tree.lift (beyond_of beyond place) under 0) }
+{
+    match beyond {
+        Beyond::Nothing => store.make(Node::Sort(0)),
+        Beyond::Itself => store.make(Node::Var(place as u32 + under)),
     }
 }

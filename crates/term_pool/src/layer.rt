@@ -3,26 +3,29 @@ ghost use Rattle.theory.specs.Terms as tree;
 ghost use Rattle.term_pool.specs.Held.{Extends, AddsParts, Makes, IsFullFor, IsRefusedNew, IsNew, Keeps, Notes};
 ghost use Rattle.term_pool.specs.Layers.{all_nodes, layer_held};
 ghost use Rattle.term_pool.specs.Nodes.{says, AllParts, AllPass};
+ghost use Rattle.term_pool.specs.Placing.{IsNowhere};
 ghost use Rattle.term_pool.specs.Pools.{id_place};
 ghost use Rattle.term_pool.specs.Shelves.{AreShelved, facts_of, node_at, tree_at};
 
 use crate::facts::{Facts, fact_over, facts_of_node, node_of};
+use crate::hashing::{ByWord, by_word};
 use crate::ids::Id;
-use crate::pool::place_of;
+use crate::placing::placed;
 use crate::{Key, Node, Pool, Row, TermStore};
-use core_terms::{MAX_HEIGHT, Stop};
+use core_terms::Stop;
 use indexmap::IndexSet;
 use std::alloc::Global;
 use std::marker::Model;
 
 /// A store over a pool that it only reads: ids of the pool stay what they are, and each new node is kept once beside them. It has the
-/// room of the pool, and keeps no rows.
+/// room of the pool, and keeps no rows. It remembers whether it was asked for a node when there was no room.
 #[derive(Drop)]
 pub struct Layer<'a> {
     base: &'a Pool,
-    nodes: IndexSet<Node<Id>>,
+    nodes: IndexSet<Node<Id>, ByWord>,
     facts: Vec<Facts>,
     told: u32,
+    lacked: bool,
 }
 
 impl<'a> Model for Layer<'a> {
@@ -42,9 +45,10 @@ impl<'a> Layer<'a> {
     {
         Layer {
             base,
-            nodes: IndexSet::new(alloc),
+            nodes: IndexSet::with_hasher(alloc, by_word()),
             facts: Vec::new(alloc),
             told: 0,
+            lacked: false,
         }
     }
 
@@ -83,6 +87,11 @@ impl<'a> Layer<'a> {
         facts_of_node(kept, self.facts.as_slice(), node)
     }
 
+    /// Whether PoolFull was answered. Takes no memory.
+    pub fn lacked(&self) -> bool {
+        self.lacked
+    }
+
     /// The number of nodes, those of the pool among them. Takes no memory.
     pub fn len(&self) -> u32
         ensures len { result ≡ length (all_nodes self.now) }
@@ -92,28 +101,21 @@ impl<'a> Layer<'a> {
         (self.base.nodes().len() + self.nodes.len()) as u32
     }
 
-    /// Whether there is room for no node more.
-    fn is_full(&self) -> bool
-        ensures { result ≡ (layer_held self.now).full }
-    {
-        self.base.cap() <= self.len()
-    }
-
-    /// The id of the node, where it is there.
+    /// The id of the node, where it is in the pool.
     fn find(&self, node: &Node<Id>) -> Option<Id>
         requires { AllPass (layer_held self.now).live node.now }
         ensures found { IfSome result (λ id. Makes (layer_held self.now) (Ok id) (says (layer_held self.now).tree node.now)) }
-        ensures absent { IfNone result (IsNew (layer_held self.now) (says (layer_held self.now).tree node.now)) }
+        ensures absent { IfNone result (IsNowhere self.now.base.nodes node.now) }
     {
         let _kept = self.base.kept();
-        let at = place_over(self.base, &self.nodes, node)?;
+        let at = self.base.place_below(node)?;
         Some(Id { at: at as u32 })
     }
 
-    /// Adds a node that is new.
-    fn add(&mut self, node: Node<Id>) -> Result<Id, Stop>
+    /// The id of a node that is not in the pool, which is added where it is new.
+    fn intern(&mut self, node: Node<Id>) -> Result<Id, Stop>
         requires live { AllPass (layer_held self.old).live node }
-        requires absent { IsNew (layer_held self.old) (says (layer_held self.old).tree node) }
+        requires beside { IsNowhere self.old.base.nodes node }
         ensures makes { Makes (layer_held self.new) result (says (layer_held self.old).tree node) }
         ensures full { IsFullFor (layer_held self.new) result (says (layer_held self.old).tree node) }
         ensures lacking { IsRefusedNew (layer_held self.new) result (says (layer_held self.old).tree node) }
@@ -123,17 +125,17 @@ impl<'a> Layer<'a> {
     {
         let _kept = self.base.kept();
         let facts = self.facts_of(&node);
-        if facts.height > MAX_HEIGHT {
-            return Err(Stop::Deep);
-        }
-        if self.is_full() {
-            return Err(Stop::PoolFull);
-        }
-        self.facts.reserve(1)?;
-        let at = self.len();
-        self.nodes.insert(node)?;
-        self.facts.push(facts).unwrap();
-        Ok(Id { at })
+        let count = self.base.len();
+        let room = self.base.cap() - count;
+        let at = placed(
+            &mut self.nodes,
+            &mut self.facts,
+            &mut self.lacked,
+            node,
+            facts,
+            room,
+        )?;
+        Ok(Id { at: count + at })
     }
 }
 
@@ -179,7 +181,7 @@ impl<'a> TermStore for Layer<'a> {
     {
         match self.find(&node) {
             Some(id) => Ok(id),
-            None => self.add(node),
+            None => self.intern(node),
         }
     }
 
@@ -228,19 +230,4 @@ fn shelved_over(
     let _order = kept;
     let _facts = facts;
     node_over(below, nodes, at)
-}
-
-/// The place of the node, where it is in the pool or beside it.
-fn place_over(base: &Pool, nodes: &IndexSet<Node<Id>>, node: &Node<Id>) -> Option<usize>
-    requires { length (base.now.nodes ++ nodes.now.keys) ≤ 50000000 }
-    ensures found { IfSome result (λ i. (i < length (base.now.nodes ++ nodes.now.keys)) × (node_at (base.now.nodes ++ nodes.now.keys) i ≡ node.now)) }
-    ensures absent { IfNone result ((i : ℕ) → i < length (base.now.nodes ++ nodes.now.keys) → node_at (base.now.nodes ++ nodes.now.keys) i ≢ node.now) }
-{
-    match base.place(node) {
-        Some(at) => Some(at),
-        None => match place_of(nodes, node) {
-            Some(at) => Some(base.nodes().len() + at),
-            None => None,
-        },
-    }
 }

@@ -3,12 +3,14 @@
 #![tactic(auto)]
 
 mod facts;
+mod hashing;
 mod ids;
 mod instantiation;
 mod layer;
 mod lifting;
 mod memo;
 mod node;
+mod placing;
 mod pool;
 mod row;
 mod shifts;
@@ -17,8 +19,9 @@ mod substitution;
 mod terms;
 mod trees;
 
+pub use hashing::WordHasher;
 pub use ids::{Id, Mark, TreeId};
-pub use instantiation::inst_in;
+pub use instantiation::{inst_in, subst_all_in};
 pub use layer::Layer;
 pub use lifting::lift_in;
 pub use node::Node;

@@ -5,7 +5,8 @@ ghost use Rattle.indexmap.specs.IndexMap.{values};
 ghost use Rattle.term_pool.specs.Held.{Extends, AddsParts, Makes, IsFullFor};
 ghost use Rattle.term_pool.specs.Lifting.{Lifts};
 
-use crate::shifts::{Shift, Shifts, keep, known};
+use crate::hashing::by_word;
+use crate::shifts::{Shift, Shifts, is_quick, keep, known};
 use crate::{Node, TermStore};
 use core_terms::Stop;
 use indexmap::IndexMap;
@@ -46,7 +47,7 @@ pub(crate) fn lift_within<S: TermStore>(
     ensures adds { AddsParts (S.held store.old) (S.held store.new) (tree.lift ((S.held store.old).tree t) by from) }
 {
     let _low = store.bound(&t);
-    let mut table = IndexMap::new(alloc);
+    let mut table = IndexMap::with_hasher(alloc, by_word());
     lift_at(store, &mut table, t, by, from as u64)
 }
 
@@ -71,6 +72,9 @@ fn lift_at<S: TermStore>(
 {
     if store.bound(&t) <= from {
         return Ok(t);
+    }
+    if is_quick(store.height(&t), false) {
+        return lift_node(store, table, t, by, from);
     }
     match known(store, table, &t, from) {
         Some(answer) => Ok(answer),

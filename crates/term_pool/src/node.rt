@@ -1,5 +1,5 @@
 /// A term whose parts are ids of a store. The variants are those of `Term`.
-#[derive(Clone, Copy, Debug, PartialEq, Eq, Hash)]
+#[derive(Clone, Copy, Debug, PartialEq, Eq)]
 pub enum Node<I> {
     Var(u32),
     Sort(u8),

@@ -1,32 +1,37 @@
-ghost use Rattle.std.specs.Prelude.{◌≡◌, ◌≢◌, ◌≤◌, ◌<◌, ◌↔◌, ℕ, [], length, take, filter, None, Some, IsTrue, IfOk, IfSome, IfNone, OnErr, Ok, Err};
+ghost use Rattle.std.specs.Prelude.{◌≡◌, ◌≢◌, ◌≤◌, ◌<◌, ◌↔◌, ℕ, [], length, take, filter, None, Some, IsTrue, IfOk, IfSome, IfNone, OnOk, OnErr, Ok, Err};
 ghost use Rattle.core_terms.specs.Answers.{Gives};
 ghost use Rattle.core_terms.specs.Meanings.{tree_of};
-ghost use Rattle.core_terms.specs.declared.stop.Stop.TheVariants.{Memory};
+ghost use Rattle.core_terms.specs.declared.stop.Stop.TheVariants.{Memory, PoolFull};
 ghost use Rattle.theory.specs.Terms as tree;
 ghost use Rattle.term_pool.specs.Held.{Extends, AddsParts, Makes, IsFullFor, IsRefusedNew, IsNew, Keeps, Notes};
 ghost use Rattle.term_pool.specs.Memo.{is_row_below, if_below};
-ghost use Rattle.term_pool.specs.Nodes.{says, AllPass};
+ghost use Rattle.term_pool.specs.Nodes.{says, AllParts, AllPass};
+ghost use Rattle.term_pool.specs.Placing.{IsNowhere};
 ghost use Rattle.term_pool.specs.Pools.{Pooled, IsPool, IsWhole, pool_held};
 ghost use Rattle.term_pool.specs.Shelves.{facts_of, node_at};
 
 use crate::facts::{Facts, facts_at, facts_of_node, shelved_node};
+use crate::hashing::{ByWord, by_word};
 use crate::ids::{Id, Mark};
 use crate::memo::Memo;
+use crate::placing::placed;
 use crate::{Key, Node, Row, TermStore, export_in, import_in};
-use core_terms::{MAX_HEIGHT, Stop, Term};
+use core_terms::{Stop, Term};
 use indexmap::IndexSet;
 use std::alloc::Global;
 use std::marker::Model;
 
-/// A store that keeps each term once: equal terms have equal ids. It has room for a number of nodes, and keeps rows.
+/// A store that keeps each term once: equal terms have equal ids. It has room for a number of nodes, and keeps rows. It remembers whether
+/// it was asked for a node when there was no room.
 #[derive(Drop)]
 pub struct Pool {
-    nodes: IndexSet<Node<Id>>,
+    nodes: IndexSet<Node<Id>, ByWord>,
     facts: Vec<Facts>,
     cap: u32,
     told: u32,
     memo: Memo,
     missed: u64,
+    lacked: bool,
     alloc: Global,
 }
 
@@ -49,7 +54,7 @@ impl Pool {
         ensures ok { IfOk result (λ p. p ≡ record { nodes = []; cap = cap; told = 0; rows = []; missed = 0 }) }
         ensures memory { OnErr result (result ≡ Err Memory) }
     {
-        let nodes = IndexSet::with_capacity(alloc, 16)?;
+        let nodes = IndexSet::with_capacity_and_hasher(alloc, 16, by_word())?;
         Ok(Pool {
             nodes,
             facts: Vec::new(alloc),
@@ -57,6 +62,7 @@ impl Pool {
             told: 0,
             memo: Memo::new(alloc),
             missed: 0,
+            lacked: false,
             alloc,
         })
     }
@@ -66,12 +72,13 @@ impl Pool {
         ensures { result ≡ record { nodes = []; cap = 50000000; told = 0; rows = []; missed = 0 } }
     {
         Pool {
-            nodes: IndexSet::new(alloc),
+            nodes: IndexSet::with_hasher(alloc, by_word()),
             facts: Vec::new(alloc),
             cap: 50000000,
             told: 0,
             memo: Memo::new(alloc),
             missed: 0,
+            lacked: false,
             alloc,
         }
     }
@@ -86,10 +93,16 @@ impl Pool {
         ensures adds { AddsParts (pool_held self.old) (pool_held self.new) (says (pool_held self.old).tree node) }
         ensures refused { OnErr result (self.new ≡ self.old) }
     {
-        match self.find(&node) {
-            Some(id) => Ok(id),
-            None => self.add(node),
-        }
+        let facts = self.facts_of(&node);
+        let at = placed(
+            &mut self.nodes,
+            &mut self.facts,
+            &mut self.lacked,
+            node,
+            facts,
+            self.cap,
+        )?;
+        Ok(Id { at })
     }
 
     /// The nodes in the order in which they were made.
@@ -106,8 +119,35 @@ impl Pool {
         self.facts.as_slice()
     }
 
+    /// Whether PoolFull was answered since this was last forgotten. Takes no memory.
+    pub fn lacked(&self) -> bool {
+        self.lacked
+    }
+
+    /// Forgets whether PoolFull was answered.
+    pub fn forget_lack(&mut self)
+        ensures { self.new ≡ self.old }
+    {
+        self.lacked = false;
+    }
+
+    /// Leaves room for so many nodes. PoolFull exactly where there are more. Takes no memory.
+    pub fn limit(&mut self, cap: u32) -> Result<(), Stop>
+        requires { cap ≤ 50000000 }
+        ensures ok { OnOk result (self.new ≡ record self.old { cap = cap }) }
+        ensures err { OnErr result (self.new ≡ self.old) }
+        ensures only { OnErr result (result ≡ Err PoolFull) }
+        ensures full { (result ≡ Err PoolFull) ↔ (cap < length self.old.nodes) }
+    {
+        if cap < self.len() {
+            return Err(Stop::PoolFull);
+        }
+        self.cap = cap;
+        Ok(())
+    }
+
     /// How many nodes there may be.
-    pub(crate) fn cap(&self) -> u32
+    pub fn cap(&self) -> u32
         ensures { result ≡ self.now.cap }
     {
         self.cap
@@ -121,40 +161,18 @@ impl Pool {
         place_of(&self.nodes, node)
     }
 
-    /// The id of the node, where it is there.
-    fn find(&self, node: &Node<Id>) -> Option<Id>
-        requires { AllPass (pool_held self.now).live node.now }
-        ensures found { IfSome result (λ id. Makes (pool_held self.now) (Ok id) (says (pool_held self.now).tree node.now)) }
-        ensures absent { IfNone result (IsNew (pool_held self.now) (says (pool_held self.now).tree node.now)) }
+    /// The place of the node, where it is there. A node is not there if some part of it is not.
+    pub(crate) fn place_below(&self, node: &Node<Id>) -> Option<usize>
+        ensures found { IfSome result (λ i. (i < length self.now.nodes) × (node_at self.now.nodes i ≡ node.now)) }
+        ensures absent { IfNone result (IsNowhere self.now.nodes node.now) }
     {
-        let _small = self.cap;
-        let at = place_of(&self.nodes, node)?;
-        Some(Id { at: at as u32 })
-    }
-
-    /// Adds a node that is new.
-    fn add(&mut self, node: Node<Id>) -> Result<Id, Stop>
-        requires live { AllPass (pool_held self.old).live node }
-        requires absent { IsNew (pool_held self.old) (says (pool_held self.old).tree node) }
-        ensures makes { Makes (pool_held self.new) result (says (pool_held self.old).tree node) }
-        ensures full { IsFullFor (pool_held self.new) result (says (pool_held self.old).tree node) }
-        ensures lacking { IsRefusedNew (pool_held self.new) result (says (pool_held self.old).tree node) }
-        ensures extends { Extends (pool_held self.old) (pool_held self.new) }
-        ensures adds { AddsParts (pool_held self.old) (pool_held self.new) (says (pool_held self.old).tree node) }
-        ensures refused { OnErr result (self.new ≡ self.old) }
-    {
-        let facts = self.facts_of(&node);
-        if facts.height > MAX_HEIGHT {
-            return Err(Stop::Deep);
+        let _order = self.cap;
+        let count = self.len();
+        if parts_below(node, count) {
+            self.place(node)
+        } else {
+            None
         }
-        if self.is_full() {
-            return Err(Stop::PoolFull);
-        }
-        self.facts.reserve(1)?;
-        let at = self.nodes.len() as u32;
-        self.nodes.insert(node)?;
-        self.facts.push(facts).unwrap();
-        Ok(Id { at })
     }
 
     /// The facts to be kept of a node.
@@ -163,13 +181,6 @@ impl Pool {
         ensures { result ≡ facts_of (says (pool_held self.now).tree node.now) }
     {
         facts_of_node(&[], self.facts.as_slice(), node)
-    }
-
-    /// Whether there is room for no node more.
-    fn is_full(&self) -> bool
-        ensures { result ≡ (pool_held self.now).full }
-    {
-        self.cap as usize <= self.nodes.len()
     }
 }
 
@@ -311,9 +322,28 @@ impl TermStore for Pool {
 }
 
 /// The place of the node, where it is there.
-pub(crate) fn place_of(nodes: &IndexSet<Node<Id>>, node: &Node<Id>) -> Option<usize>
+pub(crate) fn place_of(nodes: &IndexSet<Node<Id>, ByWord>, node: &Node<Id>) -> Option<usize>
     ensures found { IfSome result (λ i. (i < length nodes.now.keys) × (node_at nodes.now.keys i ≡ node.now)) }
     ensures absent { IfNone result ((i : ℕ) → i < length nodes.now.keys → node_at nodes.now.keys i ≢ node.now) }
 {
     nodes.get_index_of(node)
+}
+
+/// Whether all parts of the node have places below the count.
+fn parts_below(node: &Node<Id>, count: u32) -> bool
+    ensures { AllParts (λ p. p.at < count) node.now → IsTrue result }
+{
+    match node {
+        Node::Pi(a, b) => a.at < count && b.at < count,
+        Node::Lam(a, b) => a.at < count && b.at < count,
+        Node::App(f, a) => f.at < count && a.at < count,
+        Node::Let(t, v, b) => t.at < count && v.at < count && b.at < count,
+        Node::Var(_)
+        | Node::Sort(_)
+        | Node::Const(_)
+        | Node::Fam(_)
+        | Node::Con(_, _)
+        | Node::Elim(_, _)
+        | Node::AxiomK(_, _) => true,
+    }
 }

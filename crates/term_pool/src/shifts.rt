@@ -5,6 +5,7 @@ ghost use Rattle.indexmap.specs.IndexMap.{values};
 ghost use Rattle.term_pool.specs.Shifts.{AllLive, IsAnswered, IsWith};
 
 use crate::TermStore;
+use crate::hashing::{ByWord, word};
 use core_terms::Stop;
 use indexmap::IndexMap;
 
@@ -16,8 +17,20 @@ pub(crate) struct Shift<I> {
     pub answer: I,
 }
 
+/// The height up to which terms are worked anew each time, since this takes less than to find them in a table.
+const TABLED: u32 = 3;
+
 /// The answers of a call, by the place of the id and the depth.
-pub(crate) type Shifts<I> = IndexMap<(u32, u64), Shift<I>>;
+pub(crate) type Shifts<I> = IndexMap<u64, Shift<I>, ByWord>;
+
+/// Whether a tree is so low that it is worked anew each time. A variable is where what stands for it is not lifted.
+pub(crate) fn is_quick(height: u32, lifts: bool) -> bool {
+    if height == 1 {
+        !lifts
+    } else {
+        height <= TABLED
+    }
+}
 
 /// The answer for an equal tree at the depth, where the table has one.
 pub(crate) fn known<S: TermStore>(
@@ -30,7 +43,7 @@ pub(crate) fn known<S: TermStore>(
     requires table { AllLive (S.held store.now) (values table.now) }
     ensures { IfSome result (IsAnswered (S.held store.now) (values table.now) t.now depth) }
 {
-    let key = (store.place(t), depth);
+    let key = word(depth, store.place(t) as u64);
     let row = table.get(&key)?;
     if row.depth == depth && store.same(&row.from, t) {
         Some(row.answer)
@@ -50,7 +63,7 @@ pub(crate) fn keep<S: TermStore>(
     ensures err { OnErr result (values table.new ≡ values table.old) }
     ensures memory { OnErr result (result ≡ Err Memory) }
 {
-    let place = store.place(&row.from);
-    table.insert((place, row.depth), row)?;
+    let key = word(row.depth, store.place(&row.from) as u64);
+    table.insert(key, row)?;
     Ok(())
 }

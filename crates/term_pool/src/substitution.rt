@@ -5,8 +5,9 @@ ghost use Rattle.indexmap.specs.IndexMap.{values};
 ghost use Rattle.term_pool.specs.Held.{Extends, AddsParts, Makes, MakesUnder, IsFullFor};
 ghost use Rattle.term_pool.specs.Substitution.{put, Puts};
 
+use crate::hashing::by_word;
 use crate::lifting::lift_within;
-use crate::shifts::{Shift, Shifts, keep, known};
+use crate::shifts::{Shift, Shifts, is_quick, keep, known};
 use crate::{Node, TermStore};
 use core_terms::{MAX_HEIGHT, Stop};
 use indexmap::IndexMap;
@@ -31,7 +32,7 @@ pub fn subst_in<S: TermStore>(
     ensures adds { AddsParts (S.held store.old) (S.held store.new) (tree.subst ((S.held store.old).tree t) at ((S.held store.old).tree by)) }
 {
     let _low = store.bound(&t);
-    let mut table = IndexMap::new(alloc);
+    let mut table = IndexMap::with_hasher(alloc, by_word());
     subst_at(alloc, store, &mut table, t, at, by, 0)
 }
 
@@ -59,6 +60,9 @@ fn subst_at<S: TermStore>(
 {
     if store.bound(&t) <= at as u64 + under as u64 {
         return Ok(t);
+    }
+    if is_quick(store.height(&t), lifts(store, &by, under)) {
+        return subst_node(alloc, store, table, t, at, by, under);
     }
     match known(store, table, &t, under as u64) {
         Some(answer) => Ok(answer),
@@ -152,6 +156,13 @@ fn subst_node<S: TermStore>(
     }
 }
 
+/// Whether the term changes where it is lifted by so many.
+fn lifts<S: TermStore>(store: &S, t: &S::Id, by: u32) -> bool
+    requires { IsTrue ((S.held store.now).live t.now) }
+{
+    by > 0 && store.bound(t) > 0
+}
+
 /// The term that stands for the variable.
 fn subst_variable<S: TermStore>(
     alloc: Global,
@@ -195,6 +206,10 @@ pub(crate) fn lift_low<S: TermStore>(
     ensures extends { Extends (S.held store.old) (S.held store.new) }
     ensures adds { AddsParts (S.held store.old) (S.held store.new) (tree.lift ((S.held store.old).tree t) under 0) }
 {
+    if under == 0 {
+        let _low = store.bound(&t);
+        return Ok(t);
+    }
     if under + store.height(&t) > MAX_HEIGHT {
         return Err(Stop::Deep);
     }

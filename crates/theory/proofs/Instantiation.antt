@@ -41,7 +41,7 @@ extend-ups s u zero = refl
 extend-ups s u (suc n) = inst-ren (extend Var u) suc (s n) ∙ inst-var (s n)
 
 -- a term for the nearest variable after an instantiation under a binder
-put-ups : (s : ℕ → Term) (b u : Term) → put u (inst (ups s) b) ≡ inst (extend s u) b
+pub put-ups : (s : ℕ → Term) (b u : Term) → put u (inst (ups s) b) ≡ inst (extend s u) b
 put-ups s b u = inst-inst (extend Var u) (ups s) b ∙ inst-same b (extend-ups s u)
 
 -- an instantiation passes one term more

@@ -1,4 +1,5 @@
 mod Examples
+pub mod AfterPrelude
 pub mod AllOf
 pub mod Bounds
 pub mod Carrying

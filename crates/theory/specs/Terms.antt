@@ -3,7 +3,7 @@ use Rattle.std.specs.Prelude.{◌≡◌, ℕ, ◌+◌, ◌-◌, ◌<◌, ◌==�
 
 -- the greatest sort level: `Type top` is a term that has no type
 abbrev pub top : ℕ
-top = 15
+top = 63
 
 -- The eleven forms. The second part of a product and of a function, and the last part of a `let`, are under one
 -- binder more. `Con f c` is constructor `c` of the family with entry number `f`, `Elim f m` the eliminator of

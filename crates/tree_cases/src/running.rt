@@ -121,10 +121,7 @@ fn add_walk_line(
     if !is_clause_for(sig, &f.terms, clause) {
         return Err(Fault::Unfit);
     }
-    let mut units = Units {
-        left: units,
-        spent: 0,
-    };
+    let mut units = Units::new(units);
     out.extend_from_slice(b"clause ")?;
     add_number(alloc, out, u64::from(number).saturating_add(1))?;
     out.extend_from_slice(b" ")?;
@@ -172,10 +169,7 @@ fn add_tree_line(
     if !are_clauses_for(sig, &f.terms, f.clauses.as_slice()) {
         return Err(Fault::Unfit);
     }
-    let mut units = Units {
-        left: units,
-        spent: 0,
-    };
+    let mut units = Units::new(units);
     out.extend_from_slice(b"tree ")?;
     match split(
         alloc, sig, &f.ctx, &f.goal, &f.terms, &f.clauses, &mut units,

@@ -4,6 +4,7 @@ use Rattle.std.proofs.Common.{◌≡◌, false, None, Ok, [], ◌∷◌, refl, c
 use Rattle.theory.specs.Terms.Term.{Var, Sort, Pi, Lam, App, Con, Fam, Elim, Const}
 use Rattle.theory.specs.Telescopes.{applied}
 use Rattle.theory.specs.Signatures.{equation, reflexivity, FamilyOf}
+use Rattle.theory.proofs.AfterPrelude.{after}
 use Rattle.core_terms.specs.Clauses.{Is, Side}
 use Rattle.core_terms.specs.Patterns as pattern
 use Rattle.core_terms.specs.Patterns.{vector}
@@ -13,108 +14,108 @@ use Rattle.tree_translation.proofs.Samples.{sample, behind, has_family, Nat, suc
 
 abbrev plan_down : Plan
 plan_down =
-    plan_of (behind (sample false) (FamilyOf has_family ∷ [])) 53 (codes "down") 0 (Nat ∷ Fin (Var 0) ∷ App (App (Fam 52)
-    (suc_term (Var 1))) (App (App (Con 49 1) (Var 1)) (Var 0)) ∷ []) (App (App (Fam 52) (Var 2)) (Var 1)) None (Is (vector
-    (pattern.Bind ∷ pattern.Bind ∷ pattern.Con 52 1 (vector (pattern.Dot (Var 2) ∷ pattern.Dot (Var 1) ∷ pattern.Bind ∷
+    plan_of (behind (sample false) (FamilyOf has_family ∷ [])) (after 7) (codes "down") 0 (Nat ∷ Fin (Var 0) ∷ App (App (Fam (after 6))
+    (suc_term (Var 1))) (App (App (Con (after 3) 1) (Var 1)) (Var 0)) ∷ []) (App (App (Fam (after 6)) (Var 2)) (Var 1)) None (Is (vector
+    (pattern.Bind ∷ pattern.Bind ∷ pattern.Con (after 6) 1 (vector (pattern.Dot (Var 2) ∷ pattern.Dot (Var 1) ∷ pattern.Bind ∷
     [])) ∷ [])) 3 (Side (Sort 0)) ∷ []) (Var 0 ∷ [])
 
-row_down : translate (behind (sample false) (FamilyOf has_family ∷ [])) plan_down ≡ (Ok (draft (codes "down") 53
+row_down : translate (behind (sample false) (FamilyOf has_family ∷ [])) plan_down ≡ (Ok (draft (codes "down") (after 7)
     (codes "Has!case.0" ∷ codes "Fin!noconf.fzero.0" ∷ codes "Fin!noconf.fsuc.0" ∷ []) (Pi (Nat) (Pi (Fin (Var 0)) (Pi
-    (applied (Fam 52) ((suc_term (Var 1)) ∷ (applied (Con 49 1) ((Var 1) ∷ (Var 0) ∷ [])) ∷ [])) (applied (Fam 52) ((Var
-    2) ∷ (Var 1) ∷ []))))) (Lam (Nat) (Lam (Fin (Var 0)) (Lam (applied (Fam 52) ((suc_term (Var 1)) ∷ (applied (Con 49 1)
-    ((Var 1) ∷ (Var 0) ∷ [])) ∷ [])) (applied (Const 53) ((Lam (Nat) (Lam (Fin (Var 0)) (Lam (applied (Fam 52) ((Var 1) ∷
+    (applied (Fam (after 6)) ((suc_term (Var 1)) ∷ (applied (Con (after 3) 1) ((Var 1) ∷ (Var 0) ∷ [])) ∷ [])) (applied (Fam (after 6)) ((Var
+    2) ∷ (Var 1) ∷ []))))) (Lam (Nat) (Lam (Fin (Var 0)) (Lam (applied (Fam (after 6)) ((suc_term (Var 1)) ∷ (applied (Con (after 3) 1)
+    ((Var 1) ∷ (Var 0) ∷ [])) ∷ [])) (applied (Const (after 7)) ((Lam (Nat) (Lam (Fin (Var 0)) (Lam (applied (Fam (after 6)) ((Var 1) ∷
     (Var 0) ∷ [])) (Pi (equation 0 Nat (Var 2) (suc_term (Var 5))) (Pi (equation 0 (Fin (suc_term (Var 6))) (applied (Elim
     1 0) (Nat ∷ (Var 3) ∷ (Lam (Nat) (Lam (equation 0 Nat (Var 4) (Var 0)) (Pi (Fin (Var 5)) (Fin (Var 2))))) ∷ (Lam (Fin
-    (Var 3)) (Var 0)) ∷ (suc_term (Var 6)) ∷ (Var 0) ∷ (Var 2) ∷ [])) (applied (Con 49 1) ((Var 6) ∷ (Var 5) ∷ []))) (Pi
-    (equation 0 (applied (Fam 52) ((suc_term (Var 7)) ∷ (applied (Con 49 1) ((Var 7) ∷ (Var 6) ∷ [])) ∷ [])) (applied
+    (Var 3)) (Var 0)) ∷ (suc_term (Var 6)) ∷ (Var 0) ∷ (Var 2) ∷ [])) (applied (Con (after 3) 1) ((Var 6) ∷ (Var 5) ∷ []))) (Pi
+    (equation 0 (applied (Fam (after 6)) ((suc_term (Var 7)) ∷ (applied (Con (after 3) 1) ((Var 7) ∷ (Var 6) ∷ [])) ∷ [])) (applied
     (Elim 1 0) (Nat ∷ (Var 4) ∷ (Lam (Nat) (Lam (equation 0 Nat (Var 5) (Var 0)) (Pi (Fin (Var 1)) (Pi (equation 0 (Fin
     (Var 2)) (applied (Elim 1 0) (Nat ∷ (Var 7) ∷ (Lam (Nat) (Lam (equation 0 Nat (Var 8) (Var 0)) (Pi (Fin (Var 9)) (Fin
-    (Var 2))))) ∷ (Lam (Fin (Var 7)) (Var 0)) ∷ (Var 2) ∷ (Var 1) ∷ (Var 6) ∷ [])) (Var 0)) (Pi (applied (Fam 52) ((Var 8)
-    ∷ (Var 7) ∷ [])) (applied (Fam 52) ((Var 4) ∷ (Var 2) ∷ []))))))) ∷ (Lam (Fin (Var 4)) (Lam (equation 0 (Fin (Var 5))
+    (Var 2))))) ∷ (Lam (Fin (Var 7)) (Var 0)) ∷ (Var 2) ∷ (Var 1) ∷ (Var 6) ∷ [])) (Var 0)) (Pi (applied (Fam (after 6)) ((Var 8)
+    ∷ (Var 7) ∷ [])) (applied (Fam (after 6)) ((Var 4) ∷ (Var 2) ∷ []))))))) ∷ (Lam (Fin (Var 4)) (Lam (equation 0 (Fin (Var 5))
     (applied (Elim 1 0) (Nat ∷ (Var 5) ∷ (Lam (Nat) (Lam (equation 0 Nat (Var 6) (Var 0)) (Pi (Fin (Var 7)) (Fin (Var
     2))))) ∷ (Lam (Fin (Var 5)) (Var 0)) ∷ (Var 5) ∷ (reflexivity 0 Nat (Var 5)) ∷ (Var 4) ∷ [])) (Var 0)) (applied (Elim
     1 0) ((Fin (Var 6)) ∷ (Var 5) ∷ (Lam (Fin (Var 6)) (Lam (equation 0 (Fin (Var 7)) (Var 6) (Var 0)) (Pi (applied (Fam
-    52) ((Var 8) ∷ (Var 7) ∷ [])) (applied (Fam 52) ((Var 9) ∷ (Var 2) ∷ []))))) ∷ (Lam (applied (Fam 52) ((Var 6) ∷ (Var
-    5) ∷ [])) (Var 0)) ∷ (Var 1) ∷ (Var 0) ∷ [])))) ∷ (suc_term (Var 7)) ∷ (Var 1) ∷ (applied (Con 49 1) ((Var 7) ∷ (Var
-    6) ∷ [])) ∷ (Var 0) ∷ (Var 2) ∷ [])) (Var 5)) (applied (Fam 52) ((Var 8) ∷ (Var 7) ∷ [])))))))) ∷ (Lam (Nat) (Lam
+    (after 6)) ((Var 8) ∷ (Var 7) ∷ [])) (applied (Fam (after 6)) ((Var 9) ∷ (Var 2) ∷ []))))) ∷ (Lam (applied (Fam (after 6)) ((Var 6) ∷ (Var
+    5) ∷ [])) (Var 0)) ∷ (Var 1) ∷ (Var 0) ∷ [])))) ∷ (suc_term (Var 7)) ∷ (Var 1) ∷ (applied (Con (after 3) 1) ((Var 7) ∷ (Var
+    6) ∷ [])) ∷ (Var 0) ∷ (Var 2) ∷ [])) (Var 5)) (applied (Fam (after 6)) ((Var 8) ∷ (Var 7) ∷ [])))))))) ∷ (Lam (Nat) (Lam
     (equation 0 Nat (suc_term (Var 0)) (suc_term (Var 3))) (Lam (equation 0 (Fin (suc_term (Var 4))) (applied (Elim 1 0)
     (Nat ∷ (suc_term (Var 1)) ∷ (Lam (Nat) (Lam (equation 0 Nat (suc_term (Var 2)) (Var 0)) (Pi (Fin (suc_term (Var 3)))
-    (Fin (Var 2))))) ∷ (Lam (Fin (suc_term (Var 1))) (Var 0)) ∷ (suc_term (Var 4)) ∷ (Var 0) ∷ (App (Con 49 0) (Var 1)) ∷
-    [])) (applied (Con 49 1) ((Var 4) ∷ (Var 3) ∷ []))) (Lam (equation 0 (applied (Fam 52) ((suc_term (Var 5)) ∷ (applied
-    (Con 49 1) ((Var 5) ∷ (Var 4) ∷ [])) ∷ [])) (applied (Elim 1 0) (Nat ∷ (suc_term (Var 2)) ∷ (Lam (Nat) (Lam (equation
+    (Fin (Var 2))))) ∷ (Lam (Fin (suc_term (Var 1))) (Var 0)) ∷ (suc_term (Var 4)) ∷ (Var 0) ∷ (App (Con (after 3) 0) (Var 1)) ∷
+    [])) (applied (Con (after 3) 1) ((Var 4) ∷ (Var 3) ∷ []))) (Lam (equation 0 (applied (Fam (after 6)) ((suc_term (Var 5)) ∷ (applied
+    (Con (after 3) 1) ((Var 5) ∷ (Var 4) ∷ [])) ∷ [])) (applied (Elim 1 0) (Nat ∷ (suc_term (Var 2)) ∷ (Lam (Nat) (Lam (equation
     0 Nat (suc_term (Var 3)) (Var 0)) (Pi (Fin (Var 1)) (Pi (equation 0 (Fin (Var 2)) (applied (Elim 1 0) (Nat ∷ (suc_term
     (Var 5)) ∷ (Lam (Nat) (Lam (equation 0 Nat (suc_term (Var 6)) (Var 0)) (Pi (Fin (suc_term (Var 7))) (Fin (Var 2))))) ∷
-    (Lam (Fin (suc_term (Var 5))) (Var 0)) ∷ (Var 2) ∷ (Var 1) ∷ (App (Con 49 0) (Var 5)) ∷ [])) (Var 0)) (Pi (applied
-    (Fam 52) ((suc_term (Var 6)) ∷ (App (Con 49 0) (Var 6)) ∷ [])) (applied (Fam 52) ((Var 4) ∷ (Var 2) ∷ []))))))) ∷ (Lam
+    (Lam (Fin (suc_term (Var 5))) (Var 0)) ∷ (Var 2) ∷ (Var 1) ∷ (App (Con (after 3) 0) (Var 5)) ∷ [])) (Var 0)) (Pi (applied
+    (Fam (after 6)) ((suc_term (Var 6)) ∷ (App (Con (after 3) 0) (Var 6)) ∷ [])) (applied (Fam (after 6)) ((Var 4) ∷ (Var 2) ∷ []))))))) ∷ (Lam
     (Fin (suc_term (Var 2))) (Lam (equation 0 (Fin (suc_term (Var 3))) (applied (Elim 1 0) (Nat ∷ (suc_term (Var 3)) ∷
     (Lam (Nat) (Lam (equation 0 Nat (suc_term (Var 4)) (Var 0)) (Pi (Fin (suc_term (Var 5))) (Fin (Var 2))))) ∷ (Lam (Fin
-    (suc_term (Var 3))) (Var 0)) ∷ (suc_term (Var 3)) ∷ (reflexivity 0 Nat (suc_term (Var 3))) ∷ (App (Con 49 0) (Var 3))
-    ∷ [])) (Var 0)) (applied (Elim 1 0) ((Fin (suc_term (Var 4))) ∷ (App (Con 49 0) (Var 4)) ∷ (Lam (Fin (suc_term (Var
-    4))) (Lam (equation 0 (Fin (suc_term (Var 5))) (App (Con 49 0) (Var 5)) (Var 0)) (Pi (applied (Fam 52) ((suc_term (Var
-    6)) ∷ (App (Con 49 0) (Var 6)) ∷ [])) (applied (Fam 52) ((suc_term (Var 7)) ∷ (Var 2) ∷ []))))) ∷ (Lam (applied (Fam
-    52) ((suc_term (Var 4)) ∷ (App (Con 49 0) (Var 4)) ∷ [])) (Var 0)) ∷ (Var 1) ∷ (Var 0) ∷ [])))) ∷ (suc_term (Var 5)) ∷
-    (Var 1) ∷ (applied (Con 49 1) ((Var 5) ∷ (Var 4) ∷ [])) ∷ (Var 0) ∷ (App (Con 52 0) (Var 2)) ∷ [])) (Var 3)) (applied
-    (Const 54) ((Var 3) ∷ (suc_term (Var 6)) ∷ (applied (Con 49 1) ((Var 6) ∷ (Var 5) ∷ [])) ∷ (Var 2) ∷ (Var 1) ∷ (Lam
+    (suc_term (Var 3))) (Var 0)) ∷ (suc_term (Var 3)) ∷ (reflexivity 0 Nat (suc_term (Var 3))) ∷ (App (Con (after 3) 0) (Var 3))
+    ∷ [])) (Var 0)) (applied (Elim 1 0) ((Fin (suc_term (Var 4))) ∷ (App (Con (after 3) 0) (Var 4)) ∷ (Lam (Fin (suc_term (Var
+    4))) (Lam (equation 0 (Fin (suc_term (Var 5))) (App (Con (after 3) 0) (Var 5)) (Var 0)) (Pi (applied (Fam (after 6)) ((suc_term (Var
+    6)) ∷ (App (Con (after 3) 0) (Var 6)) ∷ [])) (applied (Fam (after 6)) ((suc_term (Var 7)) ∷ (Var 2) ∷ []))))) ∷ (Lam (applied (Fam
+    (after 6)) ((suc_term (Var 4)) ∷ (App (Con (after 3) 0) (Var 4)) ∷ [])) (Var 0)) ∷ (Var 1) ∷ (Var 0) ∷ [])))) ∷ (suc_term (Var 5)) ∷
+    (Var 1) ∷ (applied (Con (after 3) 1) ((Var 5) ∷ (Var 4) ∷ [])) ∷ (Var 0) ∷ (App (Con (after 6) 0) (Var 2)) ∷ [])) (Var 3)) (applied
+    (Const (after 8)) ((Var 3) ∷ (suc_term (Var 6)) ∷ (applied (Con (after 3) 1) ((Var 6) ∷ (Var 5) ∷ [])) ∷ (Var 2) ∷ (Var 1) ∷ (Lam
     (equation 0 Nat (suc_term (Var 3)) (suc_term (Var 6))) (Lam (equation 0 (Fin (suc_term (Var 7))) (applied (Elim 1 0)
     (Nat ∷ (suc_term (Var 4)) ∷ (Lam (Nat) (Lam (equation 0 Nat (suc_term (Var 5)) (Var 0)) (Pi (Fin (suc_term (Var 6)))
-    (Fin (Var 2))))) ∷ (Lam (Fin (suc_term (Var 4))) (Var 0)) ∷ (suc_term (Var 7)) ∷ (Var 0) ∷ (App (Con 49 0) (Var 4)) ∷
-    [])) (applied (Con 49 1) ((Var 7) ∷ (Var 6) ∷ []))) (applied (Fam 52) ((Var 8) ∷ (Var 7) ∷ [])))) ∷ [])))))) ∷ (Lam
-    (Nat) (Lam (Fin (Var 0)) (Lam (applied (Fam 52) ((Var 1) ∷ (Var 0) ∷ [])) (Lam (equation 0 Nat (suc_term (Var 2))
+    (Fin (Var 2))))) ∷ (Lam (Fin (suc_term (Var 4))) (Var 0)) ∷ (suc_term (Var 7)) ∷ (Var 0) ∷ (App (Con (after 3) 0) (Var 4)) ∷
+    [])) (applied (Con (after 3) 1) ((Var 7) ∷ (Var 6) ∷ []))) (applied (Fam (after 6)) ((Var 8) ∷ (Var 7) ∷ [])))) ∷ [])))))) ∷ (Lam
+    (Nat) (Lam (Fin (Var 0)) (Lam (applied (Fam (after 6)) ((Var 1) ∷ (Var 0) ∷ [])) (Lam (equation 0 Nat (suc_term (Var 2))
     (suc_term (Var 5))) (Lam (equation 0 (Fin (suc_term (Var 6))) (applied (Elim 1 0) (Nat ∷ (suc_term (Var 3)) ∷ (Lam
     (Nat) (Lam (equation 0 Nat (suc_term (Var 4)) (Var 0)) (Pi (Fin (suc_term (Var 5))) (Fin (Var 2))))) ∷ (Lam (Fin
-    (suc_term (Var 3))) (Var 0)) ∷ (suc_term (Var 6)) ∷ (Var 0) ∷ (applied (Con 49 1) ((Var 3) ∷ (Var 2) ∷ [])) ∷ []))
-    (applied (Con 49 1) ((Var 6) ∷ (Var 5) ∷ []))) (Lam (equation 0 (applied (Fam 52) ((suc_term (Var 7)) ∷ (applied (Con
-    49 1) ((Var 7) ∷ (Var 6) ∷ [])) ∷ [])) (applied (Elim 1 0) (Nat ∷ (suc_term (Var 4)) ∷ (Lam (Nat) (Lam (equation 0 Nat
+    (suc_term (Var 3))) (Var 0)) ∷ (suc_term (Var 6)) ∷ (Var 0) ∷ (applied (Con (after 3) 1) ((Var 3) ∷ (Var 2) ∷ [])) ∷ []))
+    (applied (Con (after 3) 1) ((Var 6) ∷ (Var 5) ∷ []))) (Lam (equation 0 (applied (Fam (after 6)) ((suc_term (Var 7)) ∷ (applied (Con
+    (after 3) 1) ((Var 7) ∷ (Var 6) ∷ [])) ∷ [])) (applied (Elim 1 0) (Nat ∷ (suc_term (Var 4)) ∷ (Lam (Nat) (Lam (equation 0 Nat
     (suc_term (Var 5)) (Var 0)) (Pi (Fin (Var 1)) (Pi (equation 0 (Fin (Var 2)) (applied (Elim 1 0) (Nat ∷ (suc_term (Var
     7)) ∷ (Lam (Nat) (Lam (equation 0 Nat (suc_term (Var 8)) (Var 0)) (Pi (Fin (suc_term (Var 9))) (Fin (Var 2))))) ∷ (Lam
-    (Fin (suc_term (Var 7))) (Var 0)) ∷ (Var 2) ∷ (Var 1) ∷ (applied (Con 49 1) ((Var 7) ∷ (Var 6) ∷ [])) ∷ [])) (Var 0))
-    (Pi (applied (Fam 52) ((suc_term (Var 8)) ∷ (applied (Con 49 1) ((Var 8) ∷ (Var 7) ∷ [])) ∷ [])) (applied (Fam 52)
+    (Fin (suc_term (Var 7))) (Var 0)) ∷ (Var 2) ∷ (Var 1) ∷ (applied (Con (after 3) 1) ((Var 7) ∷ (Var 6) ∷ [])) ∷ [])) (Var 0))
+    (Pi (applied (Fam (after 6)) ((suc_term (Var 8)) ∷ (applied (Con (after 3) 1) ((Var 8) ∷ (Var 7) ∷ [])) ∷ [])) (applied (Fam (after 6))
     ((Var 4) ∷ (Var 2) ∷ []))))))) ∷ (Lam (Fin (suc_term (Var 4))) (Lam (equation 0 (Fin (suc_term (Var 5))) (applied
     (Elim 1 0) (Nat ∷ (suc_term (Var 5)) ∷ (Lam (Nat) (Lam (equation 0 Nat (suc_term (Var 6)) (Var 0)) (Pi (Fin (suc_term
     (Var 7))) (Fin (Var 2))))) ∷ (Lam (Fin (suc_term (Var 5))) (Var 0)) ∷ (suc_term (Var 5)) ∷ (reflexivity 0 Nat
-    (suc_term (Var 5))) ∷ (applied (Con 49 1) ((Var 5) ∷ (Var 4) ∷ [])) ∷ [])) (Var 0)) (applied (Elim 1 0) ((Fin
-    (suc_term (Var 6))) ∷ (applied (Con 49 1) ((Var 6) ∷ (Var 5) ∷ [])) ∷ (Lam (Fin (suc_term (Var 6))) (Lam (equation 0
-    (Fin (suc_term (Var 7))) (applied (Con 49 1) ((Var 7) ∷ (Var 6) ∷ [])) (Var 0)) (Pi (applied (Fam 52) ((suc_term (Var
-    8)) ∷ (applied (Con 49 1) ((Var 8) ∷ (Var 7) ∷ [])) ∷ [])) (applied (Fam 52) ((suc_term (Var 9)) ∷ (Var 2) ∷ []))))) ∷
-    (Lam (applied (Fam 52) ((suc_term (Var 6)) ∷ (applied (Con 49 1) ((Var 6) ∷ (Var 5) ∷ [])) ∷ [])) (Var 0)) ∷ (Var 1) ∷
-    (Var 0) ∷ [])))) ∷ (suc_term (Var 7)) ∷ (Var 1) ∷ (applied (Con 49 1) ((Var 7) ∷ (Var 6) ∷ [])) ∷ (Var 0) ∷ (applied
-    (Con 52 1) ((Var 4) ∷ (Var 3) ∷ (Var 2) ∷ [])) ∷ [])) (Var 5)) (applied (Const 55) ((Var 5) ∷ (Var 4) ∷ (suc_term (Var
-    8)) ∷ (applied (Con 49 1) ((Var 8) ∷ (Var 7) ∷ [])) ∷ (Var 2) ∷ (Var 1) ∷ (Lam (equation 0 Nat (suc_term (Var 5))
+    (suc_term (Var 5))) ∷ (applied (Con (after 3) 1) ((Var 5) ∷ (Var 4) ∷ [])) ∷ [])) (Var 0)) (applied (Elim 1 0) ((Fin
+    (suc_term (Var 6))) ∷ (applied (Con (after 3) 1) ((Var 6) ∷ (Var 5) ∷ [])) ∷ (Lam (Fin (suc_term (Var 6))) (Lam (equation 0
+    (Fin (suc_term (Var 7))) (applied (Con (after 3) 1) ((Var 7) ∷ (Var 6) ∷ [])) (Var 0)) (Pi (applied (Fam (after 6)) ((suc_term (Var
+    8)) ∷ (applied (Con (after 3) 1) ((Var 8) ∷ (Var 7) ∷ [])) ∷ [])) (applied (Fam (after 6)) ((suc_term (Var 9)) ∷ (Var 2) ∷ []))))) ∷
+    (Lam (applied (Fam (after 6)) ((suc_term (Var 6)) ∷ (applied (Con (after 3) 1) ((Var 6) ∷ (Var 5) ∷ [])) ∷ [])) (Var 0)) ∷ (Var 1) ∷
+    (Var 0) ∷ [])))) ∷ (suc_term (Var 7)) ∷ (Var 1) ∷ (applied (Con (after 3) 1) ((Var 7) ∷ (Var 6) ∷ [])) ∷ (Var 0) ∷ (applied
+    (Con (after 6) 1) ((Var 4) ∷ (Var 3) ∷ (Var 2) ∷ [])) ∷ [])) (Var 5)) (applied (Const (after 9)) ((Var 5) ∷ (Var 4) ∷ (suc_term (Var
+    8)) ∷ (applied (Con (after 3) 1) ((Var 8) ∷ (Var 7) ∷ [])) ∷ (Var 2) ∷ (Var 1) ∷ (Lam (equation 0 Nat (suc_term (Var 5))
     (suc_term (Var 8))) (Lam (equation 0 (Fin (suc_term (Var 9))) (applied (Elim 1 0) (Nat ∷ (suc_term (Var 6)) ∷ (Lam
     (Nat) (Lam (equation 0 Nat (suc_term (Var 7)) (Var 0)) (Pi (Fin (suc_term (Var 8))) (Fin (Var 2))))) ∷ (Lam (Fin
-    (suc_term (Var 6))) (Var 0)) ∷ (suc_term (Var 9)) ∷ (Var 0) ∷ (applied (Con 49 1) ((Var 6) ∷ (Var 5) ∷ [])) ∷ []))
-    (applied (Con 49 1) ((Var 9) ∷ (Var 8) ∷ []))) (Pi (equation 0 (applied (Fam 52) ((suc_term (Var 10)) ∷ (applied (Con
-    49 1) ((Var 10) ∷ (Var 9) ∷ [])) ∷ [])) (applied (Elim 1 0) (Nat ∷ (suc_term (Var 7)) ∷ (Lam (Nat) (Lam (equation 0
+    (suc_term (Var 6))) (Var 0)) ∷ (suc_term (Var 9)) ∷ (Var 0) ∷ (applied (Con (after 3) 1) ((Var 6) ∷ (Var 5) ∷ [])) ∷ []))
+    (applied (Con (after 3) 1) ((Var 9) ∷ (Var 8) ∷ []))) (Pi (equation 0 (applied (Fam (after 6)) ((suc_term (Var 10)) ∷ (applied (Con
+    (after 3) 1) ((Var 10) ∷ (Var 9) ∷ [])) ∷ [])) (applied (Elim 1 0) (Nat ∷ (suc_term (Var 7)) ∷ (Lam (Nat) (Lam (equation 0
     Nat (suc_term (Var 8)) (Var 0)) (Pi (Fin (Var 1)) (Pi (equation 0 (Fin (Var 2)) (applied (Elim 1 0) (Nat ∷ (suc_term
     (Var 10)) ∷ (Lam (Nat) (Lam (equation 0 Nat (suc_term (Var 11)) (Var 0)) (Pi (Fin (suc_term (Var 12))) (Fin (Var
-    2))))) ∷ (Lam (Fin (suc_term (Var 10))) (Var 0)) ∷ (Var 2) ∷ (Var 1) ∷ (applied (Con 49 1) ((Var 10) ∷ (Var 9) ∷ []))
-    ∷ [])) (Var 0)) (Pi (applied (Fam 52) ((suc_term (Var 11)) ∷ (applied (Con 49 1) ((Var 11) ∷ (Var 10) ∷ [])) ∷ []))
-    (applied (Fam 52) ((Var 4) ∷ (Var 2) ∷ []))))))) ∷ (Lam (Fin (suc_term (Var 7))) (Lam (equation 0 (Fin (suc_term (Var
+    2))))) ∷ (Lam (Fin (suc_term (Var 10))) (Var 0)) ∷ (Var 2) ∷ (Var 1) ∷ (applied (Con (after 3) 1) ((Var 10) ∷ (Var 9) ∷ []))
+    ∷ [])) (Var 0)) (Pi (applied (Fam (after 6)) ((suc_term (Var 11)) ∷ (applied (Con (after 3) 1) ((Var 11) ∷ (Var 10) ∷ [])) ∷ []))
+    (applied (Fam (after 6)) ((Var 4) ∷ (Var 2) ∷ []))))))) ∷ (Lam (Fin (suc_term (Var 7))) (Lam (equation 0 (Fin (suc_term (Var
     8))) (applied (Elim 1 0) (Nat ∷ (suc_term (Var 8)) ∷ (Lam (Nat) (Lam (equation 0 Nat (suc_term (Var 9)) (Var 0)) (Pi
     (Fin (suc_term (Var 10))) (Fin (Var 2))))) ∷ (Lam (Fin (suc_term (Var 8))) (Var 0)) ∷ (suc_term (Var 8)) ∷
-    (reflexivity 0 Nat (suc_term (Var 8))) ∷ (applied (Con 49 1) ((Var 8) ∷ (Var 7) ∷ [])) ∷ [])) (Var 0)) (applied (Elim
-    1 0) ((Fin (suc_term (Var 9))) ∷ (applied (Con 49 1) ((Var 9) ∷ (Var 8) ∷ [])) ∷ (Lam (Fin (suc_term (Var 9))) (Lam
-    (equation 0 (Fin (suc_term (Var 10))) (applied (Con 49 1) ((Var 10) ∷ (Var 9) ∷ [])) (Var 0)) (Pi (applied (Fam 52)
-    ((suc_term (Var 11)) ∷ (applied (Con 49 1) ((Var 11) ∷ (Var 10) ∷ [])) ∷ [])) (applied (Fam 52) ((suc_term (Var 12)) ∷
-    (Var 2) ∷ []))))) ∷ (Lam (applied (Fam 52) ((suc_term (Var 9)) ∷ (applied (Con 49 1) ((Var 9) ∷ (Var 8) ∷ [])) ∷ []))
-    (Var 0)) ∷ (Var 1) ∷ (Var 0) ∷ [])))) ∷ (suc_term (Var 10)) ∷ (Var 1) ∷ (applied (Con 49 1) ((Var 10) ∷ (Var 9) ∷ []))
-    ∷ (Var 0) ∷ (applied (Con 52 1) ((Var 7) ∷ (Var 6) ∷ (Var 5) ∷ [])) ∷ [])) (Var 8)) (applied (Fam 52) ((Var 11) ∷ (Var
+    (reflexivity 0 Nat (suc_term (Var 8))) ∷ (applied (Con (after 3) 1) ((Var 8) ∷ (Var 7) ∷ [])) ∷ [])) (Var 0)) (applied (Elim
+    1 0) ((Fin (suc_term (Var 9))) ∷ (applied (Con (after 3) 1) ((Var 9) ∷ (Var 8) ∷ [])) ∷ (Lam (Fin (suc_term (Var 9))) (Lam
+    (equation 0 (Fin (suc_term (Var 10))) (applied (Con (after 3) 1) ((Var 10) ∷ (Var 9) ∷ [])) (Var 0)) (Pi (applied (Fam (after 6))
+    ((suc_term (Var 11)) ∷ (applied (Con (after 3) 1) ((Var 11) ∷ (Var 10) ∷ [])) ∷ [])) (applied (Fam (after 6)) ((suc_term (Var 12)) ∷
+    (Var 2) ∷ []))))) ∷ (Lam (applied (Fam (after 6)) ((suc_term (Var 9)) ∷ (applied (Con (after 3) 1) ((Var 9) ∷ (Var 8) ∷ [])) ∷ []))
+    (Var 0)) ∷ (Var 1) ∷ (Var 0) ∷ [])))) ∷ (suc_term (Var 10)) ∷ (Var 1) ∷ (applied (Con (after 3) 1) ((Var 10) ∷ (Var 9) ∷ []))
+    ∷ (Var 0) ∷ (applied (Con (after 6) 1) ((Var 7) ∷ (Var 6) ∷ (Var 5) ∷ [])) ∷ [])) (Var 8)) (applied (Fam (after 6)) ((Var 11) ∷ (Var
     10) ∷ []))))) ∷ (Lam (equation 0 Nat (Var 5) (Var 8)) (Lam (equation 0 (Fin (Var 9)) (applied (Elim 1 0) (Nat ∷ (Var
     6) ∷ (Lam (Nat) (Lam (equation 0 Nat (Var 7) (Var 0)) (Pi (Fin (Var 8)) (Fin (Var 2))))) ∷ (Lam (Fin (Var 6)) (Var 0))
-    ∷ (Var 9) ∷ (Var 0) ∷ (Var 5) ∷ [])) (Var 8)) (Lam (equation 0 (applied (Fam 52) ((suc_term (Var 10)) ∷ (applied (Con
-    49 1) ((Var 10) ∷ (Var 9) ∷ [])) ∷ [])) (applied (Elim 1 0) (Nat ∷ (suc_term (Var 7)) ∷ (Lam (Nat) (Lam (equation 0
+    ∷ (Var 9) ∷ (Var 0) ∷ (Var 5) ∷ [])) (Var 8)) (Lam (equation 0 (applied (Fam (after 6)) ((suc_term (Var 10)) ∷ (applied (Con
+    (after 3) 1) ((Var 10) ∷ (Var 9) ∷ [])) ∷ [])) (applied (Elim 1 0) (Nat ∷ (suc_term (Var 7)) ∷ (Lam (Nat) (Lam (equation 0
     Nat (suc_term (Var 8)) (Var 0)) (Pi (Fin (Var 1)) (Pi (equation 0 (Fin (Var 2)) (applied (Elim 1 0) (Nat ∷ (suc_term
     (Var 10)) ∷ (Lam (Nat) (Lam (equation 0 Nat (suc_term (Var 11)) (Var 0)) (Pi (Fin (suc_term (Var 12))) (Fin (Var
-    2))))) ∷ (Lam (Fin (suc_term (Var 10))) (Var 0)) ∷ (Var 2) ∷ (Var 1) ∷ (applied (Con 49 1) ((Var 10) ∷ (Var 9) ∷ []))
-    ∷ [])) (Var 0)) (Pi (applied (Fam 52) ((suc_term (Var 11)) ∷ (applied (Con 49 1) ((Var 11) ∷ (Var 10) ∷ [])) ∷ []))
-    (applied (Fam 52) ((Var 4) ∷ (Var 2) ∷ []))))))) ∷ (Lam (Fin (suc_term (Var 7))) (Lam (equation 0 (Fin (suc_term (Var
+    2))))) ∷ (Lam (Fin (suc_term (Var 10))) (Var 0)) ∷ (Var 2) ∷ (Var 1) ∷ (applied (Con (after 3) 1) ((Var 10) ∷ (Var 9) ∷ []))
+    ∷ [])) (Var 0)) (Pi (applied (Fam (after 6)) ((suc_term (Var 11)) ∷ (applied (Con (after 3) 1) ((Var 11) ∷ (Var 10) ∷ [])) ∷ []))
+    (applied (Fam (after 6)) ((Var 4) ∷ (Var 2) ∷ []))))))) ∷ (Lam (Fin (suc_term (Var 7))) (Lam (equation 0 (Fin (suc_term (Var
     8))) (applied (Elim 1 0) (Nat ∷ (suc_term (Var 8)) ∷ (Lam (Nat) (Lam (equation 0 Nat (suc_term (Var 9)) (Var 0)) (Pi
     (Fin (suc_term (Var 10))) (Fin (Var 2))))) ∷ (Lam (Fin (suc_term (Var 8))) (Var 0)) ∷ (suc_term (Var 8)) ∷
-    (reflexivity 0 Nat (suc_term (Var 8))) ∷ (applied (Con 49 1) ((Var 8) ∷ (Var 7) ∷ [])) ∷ [])) (Var 0)) (applied (Elim
-    1 0) ((Fin (suc_term (Var 9))) ∷ (applied (Con 49 1) ((Var 9) ∷ (Var 8) ∷ [])) ∷ (Lam (Fin (suc_term (Var 9))) (Lam
-    (equation 0 (Fin (suc_term (Var 10))) (applied (Con 49 1) ((Var 10) ∷ (Var 9) ∷ [])) (Var 0)) (Pi (applied (Fam 52)
-    ((suc_term (Var 11)) ∷ (applied (Con 49 1) ((Var 11) ∷ (Var 10) ∷ [])) ∷ [])) (applied (Fam 52) ((suc_term (Var 12)) ∷
-    (Var 2) ∷ []))))) ∷ (Lam (applied (Fam 52) ((suc_term (Var 9)) ∷ (applied (Con 49 1) ((Var 9) ∷ (Var 8) ∷ [])) ∷ []))
+    (reflexivity 0 Nat (suc_term (Var 8))) ∷ (applied (Con (after 3) 1) ((Var 8) ∷ (Var 7) ∷ [])) ∷ [])) (Var 0)) (applied (Elim
+    1 0) ((Fin (suc_term (Var 9))) ∷ (applied (Con (after 3) 1) ((Var 9) ∷ (Var 8) ∷ [])) ∷ (Lam (Fin (suc_term (Var 9))) (Lam
+    (equation 0 (Fin (suc_term (Var 10))) (applied (Con (after 3) 1) ((Var 10) ∷ (Var 9) ∷ [])) (Var 0)) (Pi (applied (Fam (after 6))
+    ((suc_term (Var 11)) ∷ (applied (Con (after 3) 1) ((Var 11) ∷ (Var 10) ∷ [])) ∷ [])) (applied (Fam (after 6)) ((suc_term (Var 12)) ∷
+    (Var 2) ∷ []))))) ∷ (Lam (applied (Fam (after 6)) ((suc_term (Var 9)) ∷ (applied (Con (after 3) 1) ((Var 9) ∷ (Var 8) ∷ [])) ∷ []))
     (Var 0)) ∷ (Var 1) ∷ (Var 0) ∷ [])))) ∷ (suc_term (Var 10)) ∷ (applied (Elim 1 0) (Nat ∷ (Var 7) ∷ (Lam (Nat) (Lam
     (equation 0 Nat (Var 8) (Var 0)) (Pi (Fin (Var 1)) (Pi (equation 0 (Fin (Var 2)) (applied (Elim 1 0) (Nat ∷ (Var 10) ∷
     (Lam (Nat) (Lam (equation 0 Nat (Var 11) (Var 0)) (Pi (Fin (Var 12)) (Fin (Var 2))))) ∷ (Lam (Fin (Var 10)) (Var 0)) ∷
@@ -123,7 +124,7 @@ row_down : translate (behind (sample false) (FamilyOf has_family ∷ [])) plan_d
     (Var 0)) (Pi (Fin (Var 10)) (Fin (Var 2))))) ∷ (Lam (Fin (Var 8)) (Var 0)) ∷ (Var 8) ∷ (reflexivity 0 Nat (Var 8)) ∷
     (Var 7) ∷ [])) (Var 0)) (applied (Elim 1 0) ((Fin (Var 9)) ∷ (Var 8) ∷ (Lam (Fin (Var 9)) (Lam (equation 0 (Fin (Var
     10)) (Var 9) (Var 0)) (equation 0 Nat (suc_term (Var 11)) (suc_term (Var 11))))) ∷ (reflexivity 0 Nat (suc_term (Var
-    9))) ∷ (Var 1) ∷ (Var 0) ∷ [])))) ∷ (Var 10) ∷ (Var 1) ∷ (Var 9) ∷ (Var 0) ∷ [])) ∷ (applied (Con 49 1) ((Var 10) ∷
+    9))) ∷ (Var 1) ∷ (Var 0) ∷ [])))) ∷ (Var 10) ∷ (Var 1) ∷ (Var 9) ∷ (Var 0) ∷ [])) ∷ (applied (Con (after 3) 1) ((Var 10) ∷
     (Var 9) ∷ [])) ∷ (applied (Elim 1 0) (Nat ∷ (Var 7) ∷ (Lam (Nat) (Lam (equation 0 Nat (Var 8) (Var 0)) (Pi (Fin (Var
     1)) (Pi (equation 0 (Fin (Var 2)) (applied (Elim 1 0) (Nat ∷ (Var 10) ∷ (Lam (Nat) (Lam (equation 0 Nat (Var 11) (Var
     0)) (Pi (Fin (Var 12)) (Fin (Var 2))))) ∷ (Lam (Fin (Var 10)) (Var 0)) ∷ (Var 2) ∷ (Var 1) ∷ (Var 9) ∷ [])) (Var 0))
@@ -137,8 +138,8 @@ row_down : translate (behind (sample false) (FamilyOf has_family ∷ [])) plan_d
     (Var 2))))) ∷ (Lam (Fin (Var 12)) (Var 0)) ∷ (Var 12) ∷ (reflexivity 0 Nat (Var 12)) ∷ (Var 11) ∷ [])) (Var 0))
     (applied (Elim 1 0) ((Fin (Var 13)) ∷ (Var 12) ∷ (Lam (Fin (Var 13)) (Lam (equation 0 (Fin (Var 14)) (Var 13) (Var 0))
     (equation 0 Nat (suc_term (Var 15)) (suc_term (Var 15))))) ∷ (reflexivity 0 Nat (suc_term (Var 13))) ∷ (Var 1) ∷ (Var
-    0) ∷ [])))) ∷ (Var 3) ∷ (Var 2) ∷ (Var 1) ∷ (Var 0) ∷ [])) ∷ (applied (Con 49 1) ((Var 11) ∷ (Var 10) ∷ [])) ∷ []))
-    (applied (Con 49 1) ((Var 3) ∷ (Var 1) ∷ []))))))) ∷ (Lam (Fin (Var 7)) (Lam (equation 0 (Fin (Var 8)) (applied (Elim
+    0) ∷ [])))) ∷ (Var 3) ∷ (Var 2) ∷ (Var 1) ∷ (Var 0) ∷ [])) ∷ (applied (Con (after 3) 1) ((Var 11) ∷ (Var 10) ∷ [])) ∷ []))
+    (applied (Con (after 3) 1) ((Var 3) ∷ (Var 1) ∷ []))))))) ∷ (Lam (Fin (Var 7)) (Lam (equation 0 (Fin (Var 8)) (applied (Elim
     1 0) (Nat ∷ (Var 8) ∷ (Lam (Nat) (Lam (equation 0 Nat (Var 9) (Var 0)) (Pi (Fin (Var 10)) (Fin (Var 2))))) ∷ (Lam (Fin
     (Var 8)) (Var 0)) ∷ (Var 8) ∷ (reflexivity 0 Nat (Var 8)) ∷ (Var 7) ∷ [])) (Var 0)) (applied (Elim 1 0) ((Fin (Var 9))
     ∷ (Var 8) ∷ (Lam (Fin (Var 9)) (Lam (equation 0 (Fin (Var 10)) (Var 9) (Var 0)) (equation 0 (Fin (suc_term (Var 11)))
@@ -152,27 +153,27 @@ row_down : translate (behind (sample false) (FamilyOf has_family ∷ [])) plan_d
     (Var 0)) ∷ (Var 12) ∷ (reflexivity 0 Nat (Var 12)) ∷ (Var 11) ∷ [])) (Var 0)) (applied (Elim 1 0) ((Fin (Var 13)) ∷
     (Var 12) ∷ (Lam (Fin (Var 13)) (Lam (equation 0 (Fin (Var 14)) (Var 13) (Var 0)) (equation 0 Nat (suc_term (Var 15))
     (suc_term (Var 15))))) ∷ (reflexivity 0 Nat (suc_term (Var 13))) ∷ (Var 1) ∷ (Var 0) ∷ [])))) ∷ (Var 11) ∷
-    (reflexivity 0 Nat (Var 11)) ∷ (Var 1) ∷ (Var 0) ∷ [])) ∷ (applied (Con 49 1) ((Var 11) ∷ (Var 10) ∷ [])) ∷ []))
-    (applied (Con 49 1) ((Var 11) ∷ (Var 1) ∷ []))))) ∷ (reflexivity 0 (Fin (suc_term (Var 9))) (applied (Con 49 1) ((Var
-    9) ∷ (Var 8) ∷ []))) ∷ (Var 1) ∷ (Var 0) ∷ [])))) ∷ (Var 10) ∷ (Var 1) ∷ (Var 9) ∷ (Var 0) ∷ [])) ∷ (applied (Con 52
+    (reflexivity 0 Nat (Var 11)) ∷ (Var 1) ∷ (Var 0) ∷ [])) ∷ (applied (Con (after 3) 1) ((Var 11) ∷ (Var 10) ∷ [])) ∷ []))
+    (applied (Con (after 3) 1) ((Var 11) ∷ (Var 1) ∷ []))))) ∷ (reflexivity 0 (Fin (suc_term (Var 9))) (applied (Con (after 3) 1) ((Var
+    9) ∷ (Var 8) ∷ []))) ∷ (Var 1) ∷ (Var 0) ∷ [])))) ∷ (Var 10) ∷ (Var 1) ∷ (Var 9) ∷ (Var 0) ∷ [])) ∷ (applied (Con (after 6)
     1) ((Var 7) ∷ (Var 6) ∷ (Var 5) ∷ [])) ∷ [])) (Var 8)) (applied (Elim 1 0) (Nat ∷ (Var 8) ∷ (Lam (Nat) (Lam (equation
-    0 Nat (Var 9) (Var 0)) (Pi (Fin (Var 1)) (Pi (applied (Fam 52) ((suc_term (Var 2)) ∷ (applied (Con 49 1) ((Var 2) ∷
+    0 Nat (Var 9) (Var 0)) (Pi (Fin (Var 1)) (Pi (applied (Fam (after 6)) ((suc_term (Var 2)) ∷ (applied (Con (after 3) 1) ((Var 2) ∷
     (Var 0) ∷ [])) ∷ [])) (Pi (equation 0 (Fin (Var 3)) (applied (Elim 1 0) (Nat ∷ (Var 12) ∷ (Lam (Nat) (Lam (equation 0
     Nat (Var 13) (Var 0)) (Pi (Fin (Var 14)) (Fin (Var 2))))) ∷ (Lam (Fin (Var 12)) (Var 0)) ∷ (Var 3) ∷ (Var 2) ∷ (Var
-    11) ∷ [])) (Var 1)) (Pi (equation 0 (applied (Fam 52) ((suc_term (Var 4)) ∷ (applied (Con 49 1) ((Var 4) ∷ (Var 2) ∷
+    11) ∷ [])) (Var 1)) (Pi (equation 0 (applied (Fam (after 6)) ((suc_term (Var 4)) ∷ (applied (Con (after 3) 1) ((Var 4) ∷ (Var 2) ∷
     [])) ∷ [])) (applied (Elim 1 0) (Nat ∷ (suc_term (Var 13)) ∷ (Lam (Nat) (Lam (equation 0 Nat (suc_term (Var 14)) (Var
     0)) (Pi (Fin (Var 1)) (Pi (equation 0 (Fin (Var 2)) (applied (Elim 1 0) (Nat ∷ (suc_term (Var 16)) ∷ (Lam (Nat) (Lam
     (equation 0 Nat (suc_term (Var 17)) (Var 0)) (Pi (Fin (suc_term (Var 18))) (Fin (Var 2))))) ∷ (Lam (Fin (suc_term (Var
-    16))) (Var 0)) ∷ (Var 2) ∷ (Var 1) ∷ (applied (Con 49 1) ((Var 16) ∷ (Var 15) ∷ [])) ∷ [])) (Var 0)) (Pi (applied (Fam
-    52) ((suc_term (Var 17)) ∷ (applied (Con 49 1) ((Var 17) ∷ (Var 16) ∷ [])) ∷ [])) (applied (Fam 52) ((Var 4) ∷ (Var 2)
+    16))) (Var 0)) ∷ (Var 2) ∷ (Var 1) ∷ (applied (Con (after 3) 1) ((Var 16) ∷ (Var 15) ∷ [])) ∷ [])) (Var 0)) (Pi (applied (Fam
+    (after 6)) ((suc_term (Var 17)) ∷ (applied (Con (after 3) 1) ((Var 17) ∷ (Var 16) ∷ [])) ∷ [])) (applied (Fam (after 6)) ((Var 4) ∷ (Var 2)
     ∷ []))))))) ∷ (Lam (Fin (suc_term (Var 13))) (Lam (equation 0 (Fin (suc_term (Var 14))) (applied (Elim 1 0) (Nat ∷
     (suc_term (Var 14)) ∷ (Lam (Nat) (Lam (equation 0 Nat (suc_term (Var 15)) (Var 0)) (Pi (Fin (suc_term (Var 16))) (Fin
     (Var 2))))) ∷ (Lam (Fin (suc_term (Var 14))) (Var 0)) ∷ (suc_term (Var 14)) ∷ (reflexivity 0 Nat (suc_term (Var 14)))
-    ∷ (applied (Con 49 1) ((Var 14) ∷ (Var 13) ∷ [])) ∷ [])) (Var 0)) (applied (Elim 1 0) ((Fin (suc_term (Var 15))) ∷
-    (applied (Con 49 1) ((Var 15) ∷ (Var 14) ∷ [])) ∷ (Lam (Fin (suc_term (Var 15))) (Lam (equation 0 (Fin (suc_term (Var
-    16))) (applied (Con 49 1) ((Var 16) ∷ (Var 15) ∷ [])) (Var 0)) (Pi (applied (Fam 52) ((suc_term (Var 17)) ∷ (applied
-    (Con 49 1) ((Var 17) ∷ (Var 16) ∷ [])) ∷ [])) (applied (Fam 52) ((suc_term (Var 18)) ∷ (Var 2) ∷ []))))) ∷ (Lam
-    (applied (Fam 52) ((suc_term (Var 15)) ∷ (applied (Con 49 1) ((Var 15) ∷ (Var 14) ∷ [])) ∷ [])) (Var 0)) ∷ (Var 1) ∷
+    ∷ (applied (Con (after 3) 1) ((Var 14) ∷ (Var 13) ∷ [])) ∷ [])) (Var 0)) (applied (Elim 1 0) ((Fin (suc_term (Var 15))) ∷
+    (applied (Con (after 3) 1) ((Var 15) ∷ (Var 14) ∷ [])) ∷ (Lam (Fin (suc_term (Var 15))) (Lam (equation 0 (Fin (suc_term (Var
+    16))) (applied (Con (after 3) 1) ((Var 16) ∷ (Var 15) ∷ [])) (Var 0)) (Pi (applied (Fam (after 6)) ((suc_term (Var 17)) ∷ (applied
+    (Con (after 3) 1) ((Var 17) ∷ (Var 16) ∷ [])) ∷ [])) (applied (Fam (after 6)) ((suc_term (Var 18)) ∷ (Var 2) ∷ []))))) ∷ (Lam
+    (applied (Fam (after 6)) ((suc_term (Var 15)) ∷ (applied (Con (after 3) 1) ((Var 15) ∷ (Var 14) ∷ [])) ∷ [])) (Var 0)) ∷ (Var 1) ∷
     (Var 0) ∷ [])))) ∷ (suc_term (Var 4)) ∷ (applied (Elim 1 0) (Nat ∷ (Var 13) ∷ (Lam (Nat) (Lam (equation 0 Nat (Var 14)
     (Var 0)) (Pi (Fin (Var 1)) (Pi (equation 0 (Fin (Var 2)) (applied (Elim 1 0) (Nat ∷ (Var 16) ∷ (Lam (Nat) (Lam
     (equation 0 Nat (Var 17) (Var 0)) (Pi (Fin (Var 18)) (Fin (Var 2))))) ∷ (Lam (Fin (Var 16)) (Var 0)) ∷ (Var 2) ∷ (Var
@@ -181,7 +182,7 @@ row_down : translate (behind (sample false) (FamilyOf has_family ∷ [])) plan_d
     (Fin (Var 16)) (Fin (Var 2))))) ∷ (Lam (Fin (Var 14)) (Var 0)) ∷ (Var 14) ∷ (reflexivity 0 Nat (Var 14)) ∷ (Var 13) ∷
     [])) (Var 0)) (applied (Elim 1 0) ((Fin (Var 15)) ∷ (Var 14) ∷ (Lam (Fin (Var 15)) (Lam (equation 0 (Fin (Var 16))
     (Var 15) (Var 0)) (equation 0 Nat (suc_term (Var 17)) (suc_term (Var 17))))) ∷ (reflexivity 0 Nat (suc_term (Var 15)))
-    ∷ (Var 1) ∷ (Var 0) ∷ [])))) ∷ (Var 4) ∷ (Var 3) ∷ (Var 2) ∷ (Var 0) ∷ [])) ∷ (applied (Con 49 1) ((Var 4) ∷ (Var 2) ∷
+    ∷ (Var 1) ∷ (Var 0) ∷ [])))) ∷ (Var 4) ∷ (Var 3) ∷ (Var 2) ∷ (Var 0) ∷ [])) ∷ (applied (Con (after 3) 1) ((Var 4) ∷ (Var 2) ∷
     [])) ∷ (applied (Elim 1 0) (Nat ∷ (Var 13) ∷ (Lam (Nat) (Lam (equation 0 Nat (Var 14) (Var 0)) (Pi (Fin (Var 1)) (Pi
     (equation 0 (Fin (Var 2)) (applied (Elim 1 0) (Nat ∷ (Var 16) ∷ (Lam (Nat) (Lam (equation 0 Nat (Var 17) (Var 0)) (Pi
     (Fin (Var 18)) (Fin (Var 2))))) ∷ (Lam (Fin (Var 16)) (Var 0)) ∷ (Var 2) ∷ (Var 1) ∷ (Var 15) ∷ [])) (Var 0))
@@ -195,8 +196,8 @@ row_down : translate (behind (sample false) (FamilyOf has_family ∷ [])) plan_d
     (Var 2))))) ∷ (Lam (Fin (Var 18)) (Var 0)) ∷ (Var 18) ∷ (reflexivity 0 Nat (Var 18)) ∷ (Var 17) ∷ [])) (Var 0))
     (applied (Elim 1 0) ((Fin (Var 19)) ∷ (Var 18) ∷ (Lam (Fin (Var 19)) (Lam (equation 0 (Fin (Var 20)) (Var 19) (Var 0))
     (equation 0 Nat (suc_term (Var 21)) (suc_term (Var 21))))) ∷ (reflexivity 0 Nat (suc_term (Var 19))) ∷ (Var 1) ∷ (Var
-    0) ∷ [])))) ∷ (Var 3) ∷ (Var 2) ∷ (Var 1) ∷ (Var 0) ∷ [])) ∷ (applied (Con 49 1) ((Var 17) ∷ (Var 16) ∷ [])) ∷ []))
-    (applied (Con 49 1) ((Var 3) ∷ (Var 1) ∷ []))))))) ∷ (Lam (Fin (Var 13)) (Lam (equation 0 (Fin (Var 14)) (applied
+    0) ∷ [])))) ∷ (Var 3) ∷ (Var 2) ∷ (Var 1) ∷ (Var 0) ∷ [])) ∷ (applied (Con (after 3) 1) ((Var 17) ∷ (Var 16) ∷ [])) ∷ []))
+    (applied (Con (after 3) 1) ((Var 3) ∷ (Var 1) ∷ []))))))) ∷ (Lam (Fin (Var 13)) (Lam (equation 0 (Fin (Var 14)) (applied
     (Elim 1 0) (Nat ∷ (Var 14) ∷ (Lam (Nat) (Lam (equation 0 Nat (Var 15) (Var 0)) (Pi (Fin (Var 16)) (Fin (Var 2))))) ∷
     (Lam (Fin (Var 14)) (Var 0)) ∷ (Var 14) ∷ (reflexivity 0 Nat (Var 14)) ∷ (Var 13) ∷ [])) (Var 0)) (applied (Elim 1 0)
     ((Fin (Var 15)) ∷ (Var 14) ∷ (Lam (Fin (Var 15)) (Lam (equation 0 (Fin (Var 16)) (Var 15) (Var 0)) (equation 0 (Fin
@@ -210,27 +211,27 @@ row_down : translate (behind (sample false) (FamilyOf has_family ∷ [])) plan_d
     2))))) ∷ (Lam (Fin (Var 18)) (Var 0)) ∷ (Var 18) ∷ (reflexivity 0 Nat (Var 18)) ∷ (Var 17) ∷ [])) (Var 0)) (applied
     (Elim 1 0) ((Fin (Var 19)) ∷ (Var 18) ∷ (Lam (Fin (Var 19)) (Lam (equation 0 (Fin (Var 20)) (Var 19) (Var 0))
     (equation 0 Nat (suc_term (Var 21)) (suc_term (Var 21))))) ∷ (reflexivity 0 Nat (suc_term (Var 19))) ∷ (Var 1) ∷ (Var
-    0) ∷ [])))) ∷ (Var 17) ∷ (reflexivity 0 Nat (Var 17)) ∷ (Var 1) ∷ (Var 0) ∷ [])) ∷ (applied (Con 49 1) ((Var 17) ∷
-    (Var 16) ∷ [])) ∷ [])) (applied (Con 49 1) ((Var 17) ∷ (Var 1) ∷ []))))) ∷ (reflexivity 0 (Fin (suc_term (Var 15)))
-    (applied (Con 49 1) ((Var 15) ∷ (Var 14) ∷ []))) ∷ (Var 1) ∷ (Var 0) ∷ [])))) ∷ (Var 4) ∷ (Var 3) ∷ (Var 2) ∷ (Var 0)
-    ∷ [])) ∷ (applied (Con 52 1) ((Var 13) ∷ (Var 12) ∷ (Var 11) ∷ [])) ∷ [])) (Var 1)) (applied (Fam 52) ((Var 5) ∷ (Var
-    3) ∷ [])))))))) ∷ (Lam (Fin (Var 8)) (Lam (applied (Fam 52) ((suc_term (Var 9)) ∷ (applied (Con 49 1) ((Var 9) ∷ (Var
+    0) ∷ [])))) ∷ (Var 17) ∷ (reflexivity 0 Nat (Var 17)) ∷ (Var 1) ∷ (Var 0) ∷ [])) ∷ (applied (Con (after 3) 1) ((Var 17) ∷
+    (Var 16) ∷ [])) ∷ [])) (applied (Con (after 3) 1) ((Var 17) ∷ (Var 1) ∷ []))))) ∷ (reflexivity 0 (Fin (suc_term (Var 15)))
+    (applied (Con (after 3) 1) ((Var 15) ∷ (Var 14) ∷ []))) ∷ (Var 1) ∷ (Var 0) ∷ [])))) ∷ (Var 4) ∷ (Var 3) ∷ (Var 2) ∷ (Var 0)
+    ∷ [])) ∷ (applied (Con (after 6) 1) ((Var 13) ∷ (Var 12) ∷ (Var 11) ∷ [])) ∷ [])) (Var 1)) (applied (Fam (after 6)) ((Var 5) ∷ (Var
+    3) ∷ [])))))))) ∷ (Lam (Fin (Var 8)) (Lam (applied (Fam (after 6)) ((suc_term (Var 9)) ∷ (applied (Con (after 3) 1) ((Var 9) ∷ (Var
     0) ∷ [])) ∷ [])) (Lam (equation 0 (Fin (Var 10)) (applied (Elim 1 0) (Nat ∷ (Var 10) ∷ (Lam (Nat) (Lam (equation 0 Nat
     (Var 11) (Var 0)) (Pi (Fin (Var 12)) (Fin (Var 2))))) ∷ (Lam (Fin (Var 10)) (Var 0)) ∷ (Var 10) ∷ (reflexivity 0 Nat
-    (Var 10)) ∷ (Var 9) ∷ [])) (Var 1)) (Lam (equation 0 (applied (Fam 52) ((suc_term (Var 11)) ∷ (applied (Con 49 1)
+    (Var 10)) ∷ (Var 9) ∷ [])) (Var 1)) (Lam (equation 0 (applied (Fam (after 6)) ((suc_term (Var 11)) ∷ (applied (Con (after 3) 1)
     ((Var 11) ∷ (Var 2) ∷ [])) ∷ [])) (applied (Elim 1 0) (Nat ∷ (suc_term (Var 11)) ∷ (Lam (Nat) (Lam (equation 0 Nat
     (suc_term (Var 12)) (Var 0)) (Pi (Fin (Var 1)) (Pi (equation 0 (Fin (Var 2)) (applied (Elim 1 0) (Nat ∷ (suc_term (Var
     14)) ∷ (Lam (Nat) (Lam (equation 0 Nat (suc_term (Var 15)) (Var 0)) (Pi (Fin (suc_term (Var 16))) (Fin (Var 2))))) ∷
-    (Lam (Fin (suc_term (Var 14))) (Var 0)) ∷ (Var 2) ∷ (Var 1) ∷ (applied (Con 49 1) ((Var 14) ∷ (Var 13) ∷ [])) ∷ []))
-    (Var 0)) (Pi (applied (Fam 52) ((suc_term (Var 15)) ∷ (applied (Con 49 1) ((Var 15) ∷ (Var 14) ∷ [])) ∷ [])) (applied
-    (Fam 52) ((Var 4) ∷ (Var 2) ∷ []))))))) ∷ (Lam (Fin (suc_term (Var 11))) (Lam (equation 0 (Fin (suc_term (Var 12)))
+    (Lam (Fin (suc_term (Var 14))) (Var 0)) ∷ (Var 2) ∷ (Var 1) ∷ (applied (Con (after 3) 1) ((Var 14) ∷ (Var 13) ∷ [])) ∷ []))
+    (Var 0)) (Pi (applied (Fam (after 6)) ((suc_term (Var 15)) ∷ (applied (Con (after 3) 1) ((Var 15) ∷ (Var 14) ∷ [])) ∷ [])) (applied
+    (Fam (after 6)) ((Var 4) ∷ (Var 2) ∷ []))))))) ∷ (Lam (Fin (suc_term (Var 11))) (Lam (equation 0 (Fin (suc_term (Var 12)))
     (applied (Elim 1 0) (Nat ∷ (suc_term (Var 12)) ∷ (Lam (Nat) (Lam (equation 0 Nat (suc_term (Var 13)) (Var 0)) (Pi (Fin
     (suc_term (Var 14))) (Fin (Var 2))))) ∷ (Lam (Fin (suc_term (Var 12))) (Var 0)) ∷ (suc_term (Var 12)) ∷ (reflexivity 0
-    Nat (suc_term (Var 12))) ∷ (applied (Con 49 1) ((Var 12) ∷ (Var 11) ∷ [])) ∷ [])) (Var 0)) (applied (Elim 1 0) ((Fin
-    (suc_term (Var 13))) ∷ (applied (Con 49 1) ((Var 13) ∷ (Var 12) ∷ [])) ∷ (Lam (Fin (suc_term (Var 13))) (Lam (equation
-    0 (Fin (suc_term (Var 14))) (applied (Con 49 1) ((Var 14) ∷ (Var 13) ∷ [])) (Var 0)) (Pi (applied (Fam 52) ((suc_term
-    (Var 15)) ∷ (applied (Con 49 1) ((Var 15) ∷ (Var 14) ∷ [])) ∷ [])) (applied (Fam 52) ((suc_term (Var 16)) ∷ (Var 2) ∷
-    []))))) ∷ (Lam (applied (Fam 52) ((suc_term (Var 13)) ∷ (applied (Con 49 1) ((Var 13) ∷ (Var 12) ∷ [])) ∷ [])) (Var
+    Nat (suc_term (Var 12))) ∷ (applied (Con (after 3) 1) ((Var 12) ∷ (Var 11) ∷ [])) ∷ [])) (Var 0)) (applied (Elim 1 0) ((Fin
+    (suc_term (Var 13))) ∷ (applied (Con (after 3) 1) ((Var 13) ∷ (Var 12) ∷ [])) ∷ (Lam (Fin (suc_term (Var 13))) (Lam (equation
+    0 (Fin (suc_term (Var 14))) (applied (Con (after 3) 1) ((Var 14) ∷ (Var 13) ∷ [])) (Var 0)) (Pi (applied (Fam (after 6)) ((suc_term
+    (Var 15)) ∷ (applied (Con (after 3) 1) ((Var 15) ∷ (Var 14) ∷ [])) ∷ [])) (applied (Fam (after 6)) ((suc_term (Var 16)) ∷ (Var 2) ∷
+    []))))) ∷ (Lam (applied (Fam (after 6)) ((suc_term (Var 13)) ∷ (applied (Con (after 3) 1) ((Var 13) ∷ (Var 12) ∷ [])) ∷ [])) (Var
     0)) ∷ (Var 1) ∷ (Var 0) ∷ [])))) ∷ (suc_term (Var 11)) ∷ (applied (Elim 1 0) (Nat ∷ (Var 11) ∷ (Lam (Nat) (Lam
     (equation 0 Nat (Var 12) (Var 0)) (Pi (Fin (Var 1)) (Pi (equation 0 (Fin (Var 2)) (applied (Elim 1 0) (Nat ∷ (Var 14)
     ∷ (Lam (Nat) (Lam (equation 0 Nat (Var 15) (Var 0)) (Pi (Fin (Var 16)) (Fin (Var 2))))) ∷ (Lam (Fin (Var 14)) (Var 0))
@@ -240,7 +241,7 @@ row_down : translate (behind (sample false) (FamilyOf has_family ∷ [])) plan_d
     12)) ∷ (Var 11) ∷ [])) (Var 0)) (applied (Elim 1 0) ((Fin (Var 13)) ∷ (Var 12) ∷ (Lam (Fin (Var 13)) (Lam (equation 0
     (Fin (Var 14)) (Var 13) (Var 0)) (equation 0 Nat (suc_term (Var 15)) (suc_term (Var 15))))) ∷ (reflexivity 0 Nat
     (suc_term (Var 13))) ∷ (Var 1) ∷ (Var 0) ∷ [])))) ∷ (Var 11) ∷ (reflexivity 0 Nat (Var 11)) ∷ (Var 2) ∷ (Var 0) ∷ []))
-    ∷ (applied (Con 49 1) ((Var 11) ∷ (Var 2) ∷ [])) ∷ (applied (Elim 1 0) (Nat ∷ (Var 11) ∷ (Lam (Nat) (Lam (equation 0
+    ∷ (applied (Con (after 3) 1) ((Var 11) ∷ (Var 2) ∷ [])) ∷ (applied (Elim 1 0) (Nat ∷ (Var 11) ∷ (Lam (Nat) (Lam (equation 0
     Nat (Var 12) (Var 0)) (Pi (Fin (Var 1)) (Pi (equation 0 (Fin (Var 2)) (applied (Elim 1 0) (Nat ∷ (Var 14) ∷ (Lam (Nat)
     (Lam (equation 0 Nat (Var 15) (Var 0)) (Pi (Fin (Var 16)) (Fin (Var 2))))) ∷ (Lam (Fin (Var 14)) (Var 0)) ∷ (Var 2) ∷
     (Var 1) ∷ (Var 13) ∷ [])) (Var 0)) (equation 0 (Fin (suc_term (Var 3))) (applied (Elim 1 0) (Nat ∷ (suc_term (Var 15))
@@ -253,8 +254,8 @@ row_down : translate (behind (sample false) (FamilyOf has_family ∷ [])) plan_d
     17) (Var 0)) (Pi (Fin (Var 18)) (Fin (Var 2))))) ∷ (Lam (Fin (Var 16)) (Var 0)) ∷ (Var 16) ∷ (reflexivity 0 Nat (Var
     16)) ∷ (Var 15) ∷ [])) (Var 0)) (applied (Elim 1 0) ((Fin (Var 17)) ∷ (Var 16) ∷ (Lam (Fin (Var 17)) (Lam (equation 0
     (Fin (Var 18)) (Var 17) (Var 0)) (equation 0 Nat (suc_term (Var 19)) (suc_term (Var 19))))) ∷ (reflexivity 0 Nat
-    (suc_term (Var 17))) ∷ (Var 1) ∷ (Var 0) ∷ [])))) ∷ (Var 3) ∷ (Var 2) ∷ (Var 1) ∷ (Var 0) ∷ [])) ∷ (applied (Con 49 1)
-    ((Var 15) ∷ (Var 14) ∷ [])) ∷ [])) (applied (Con 49 1) ((Var 3) ∷ (Var 1) ∷ []))))))) ∷ (Lam (Fin (Var 11)) (Lam
+    (suc_term (Var 17))) ∷ (Var 1) ∷ (Var 0) ∷ [])))) ∷ (Var 3) ∷ (Var 2) ∷ (Var 1) ∷ (Var 0) ∷ [])) ∷ (applied (Con (after 3) 1)
+    ((Var 15) ∷ (Var 14) ∷ [])) ∷ [])) (applied (Con (after 3) 1) ((Var 3) ∷ (Var 1) ∷ []))))))) ∷ (Lam (Fin (Var 11)) (Lam
     (equation 0 (Fin (Var 12)) (applied (Elim 1 0) (Nat ∷ (Var 12) ∷ (Lam (Nat) (Lam (equation 0 Nat (Var 13) (Var 0)) (Pi
     (Fin (Var 14)) (Fin (Var 2))))) ∷ (Lam (Fin (Var 12)) (Var 0)) ∷ (Var 12) ∷ (reflexivity 0 Nat (Var 12)) ∷ (Var 11) ∷
     [])) (Var 0)) (applied (Elim 1 0) ((Fin (Var 13)) ∷ (Var 12) ∷ (Lam (Fin (Var 13)) (Lam (equation 0 (Fin (Var 14))
@@ -268,26 +269,26 @@ row_down : translate (behind (sample false) (FamilyOf has_family ∷ [])) plan_d
     (Fin (Var 18)) (Fin (Var 2))))) ∷ (Lam (Fin (Var 16)) (Var 0)) ∷ (Var 16) ∷ (reflexivity 0 Nat (Var 16)) ∷ (Var 15) ∷
     [])) (Var 0)) (applied (Elim 1 0) ((Fin (Var 17)) ∷ (Var 16) ∷ (Lam (Fin (Var 17)) (Lam (equation 0 (Fin (Var 18))
     (Var 17) (Var 0)) (equation 0 Nat (suc_term (Var 19)) (suc_term (Var 19))))) ∷ (reflexivity 0 Nat (suc_term (Var 17)))
-    ∷ (Var 1) ∷ (Var 0) ∷ [])))) ∷ (Var 15) ∷ (reflexivity 0 Nat (Var 15)) ∷ (Var 1) ∷ (Var 0) ∷ [])) ∷ (applied (Con 49
-    1) ((Var 15) ∷ (Var 14) ∷ [])) ∷ [])) (applied (Con 49 1) ((Var 15) ∷ (Var 1) ∷ []))))) ∷ (reflexivity 0 (Fin
-    (suc_term (Var 13))) (applied (Con 49 1) ((Var 13) ∷ (Var 12) ∷ []))) ∷ (Var 1) ∷ (Var 0) ∷ [])))) ∷ (Var 11) ∷
-    (reflexivity 0 Nat (Var 11)) ∷ (Var 2) ∷ (Var 0) ∷ [])) ∷ (applied (Con 52 1) ((Var 11) ∷ (Var 10) ∷ (Var 9) ∷ [])) ∷
+    ∷ (Var 1) ∷ (Var 0) ∷ [])))) ∷ (Var 15) ∷ (reflexivity 0 Nat (Var 15)) ∷ (Var 1) ∷ (Var 0) ∷ [])) ∷ (applied (Con (after 3)
+    1) ((Var 15) ∷ (Var 14) ∷ [])) ∷ [])) (applied (Con (after 3) 1) ((Var 15) ∷ (Var 1) ∷ []))))) ∷ (reflexivity 0 (Fin
+    (suc_term (Var 13))) (applied (Con (after 3) 1) ((Var 13) ∷ (Var 12) ∷ []))) ∷ (Var 1) ∷ (Var 0) ∷ [])))) ∷ (Var 11) ∷
+    (reflexivity 0 Nat (Var 11)) ∷ (Var 2) ∷ (Var 0) ∷ [])) ∷ (applied (Con (after 6) 1) ((Var 11) ∷ (Var 10) ∷ (Var 9) ∷ [])) ∷
     [])) (Var 1)) (applied (Elim 1 0) ((Fin (Var 12)) ∷ (Var 11) ∷ (Lam (Fin (Var 12)) (Lam (equation 0 (Fin (Var 13))
-    (Var 12) (Var 0)) (Pi (applied (Fam 52) ((suc_term (Var 14)) ∷ (applied (Con 49 1) ((Var 14) ∷ (Var 1) ∷ [])) ∷ []))
-    (Pi (equation 0 (applied (Fam 52) ((suc_term (Var 15)) ∷ (applied (Con 49 1) ((Var 15) ∷ (Var 2) ∷ [])) ∷ []))
+    (Var 12) (Var 0)) (Pi (applied (Fam (after 6)) ((suc_term (Var 14)) ∷ (applied (Con (after 3) 1) ((Var 14) ∷ (Var 1) ∷ [])) ∷ []))
+    (Pi (equation 0 (applied (Fam (after 6)) ((suc_term (Var 15)) ∷ (applied (Con (after 3) 1) ((Var 15) ∷ (Var 2) ∷ [])) ∷ []))
     (applied (Elim 1 0) (Nat ∷ (suc_term (Var 15)) ∷ (Lam (Nat) (Lam (equation 0 Nat (suc_term (Var 16)) (Var 0)) (Pi (Fin
     (Var 1)) (Pi (equation 0 (Fin (Var 2)) (applied (Elim 1 0) (Nat ∷ (suc_term (Var 18)) ∷ (Lam (Nat) (Lam (equation 0
     Nat (suc_term (Var 19)) (Var 0)) (Pi (Fin (suc_term (Var 20))) (Fin (Var 2))))) ∷ (Lam (Fin (suc_term (Var 18))) (Var
-    0)) ∷ (Var 2) ∷ (Var 1) ∷ (applied (Con 49 1) ((Var 18) ∷ (Var 17) ∷ [])) ∷ [])) (Var 0)) (Pi (applied (Fam 52)
-    ((suc_term (Var 19)) ∷ (applied (Con 49 1) ((Var 19) ∷ (Var 18) ∷ [])) ∷ [])) (applied (Fam 52) ((Var 4) ∷ (Var 2) ∷
+    0)) ∷ (Var 2) ∷ (Var 1) ∷ (applied (Con (after 3) 1) ((Var 18) ∷ (Var 17) ∷ [])) ∷ [])) (Var 0)) (Pi (applied (Fam (after 6))
+    ((suc_term (Var 19)) ∷ (applied (Con (after 3) 1) ((Var 19) ∷ (Var 18) ∷ [])) ∷ [])) (applied (Fam (after 6)) ((Var 4) ∷ (Var 2) ∷
     []))))))) ∷ (Lam (Fin (suc_term (Var 15))) (Lam (equation 0 (Fin (suc_term (Var 16))) (applied (Elim 1 0) (Nat ∷
     (suc_term (Var 16)) ∷ (Lam (Nat) (Lam (equation 0 Nat (suc_term (Var 17)) (Var 0)) (Pi (Fin (suc_term (Var 18))) (Fin
     (Var 2))))) ∷ (Lam (Fin (suc_term (Var 16))) (Var 0)) ∷ (suc_term (Var 16)) ∷ (reflexivity 0 Nat (suc_term (Var 16)))
-    ∷ (applied (Con 49 1) ((Var 16) ∷ (Var 15) ∷ [])) ∷ [])) (Var 0)) (applied (Elim 1 0) ((Fin (suc_term (Var 17))) ∷
-    (applied (Con 49 1) ((Var 17) ∷ (Var 16) ∷ [])) ∷ (Lam (Fin (suc_term (Var 17))) (Lam (equation 0 (Fin (suc_term (Var
-    18))) (applied (Con 49 1) ((Var 18) ∷ (Var 17) ∷ [])) (Var 0)) (Pi (applied (Fam 52) ((suc_term (Var 19)) ∷ (applied
-    (Con 49 1) ((Var 19) ∷ (Var 18) ∷ [])) ∷ [])) (applied (Fam 52) ((suc_term (Var 20)) ∷ (Var 2) ∷ []))))) ∷ (Lam
-    (applied (Fam 52) ((suc_term (Var 17)) ∷ (applied (Con 49 1) ((Var 17) ∷ (Var 16) ∷ [])) ∷ [])) (Var 0)) ∷ (Var 1) ∷
+    ∷ (applied (Con (after 3) 1) ((Var 16) ∷ (Var 15) ∷ [])) ∷ [])) (Var 0)) (applied (Elim 1 0) ((Fin (suc_term (Var 17))) ∷
+    (applied (Con (after 3) 1) ((Var 17) ∷ (Var 16) ∷ [])) ∷ (Lam (Fin (suc_term (Var 17))) (Lam (equation 0 (Fin (suc_term (Var
+    18))) (applied (Con (after 3) 1) ((Var 18) ∷ (Var 17) ∷ [])) (Var 0)) (Pi (applied (Fam (after 6)) ((suc_term (Var 19)) ∷ (applied
+    (Con (after 3) 1) ((Var 19) ∷ (Var 18) ∷ [])) ∷ [])) (applied (Fam (after 6)) ((suc_term (Var 20)) ∷ (Var 2) ∷ []))))) ∷ (Lam
+    (applied (Fam (after 6)) ((suc_term (Var 17)) ∷ (applied (Con (after 3) 1) ((Var 17) ∷ (Var 16) ∷ [])) ∷ [])) (Var 0)) ∷ (Var 1) ∷
     (Var 0) ∷ [])))) ∷ (suc_term (Var 15)) ∷ (applied (Elim 1 0) (Nat ∷ (Var 15) ∷ (Lam (Nat) (Lam (equation 0 Nat (Var
     16) (Var 0)) (Pi (Fin (Var 1)) (Pi (equation 0 (Fin (Var 2)) (applied (Elim 1 0) (Nat ∷ (Var 18) ∷ (Lam (Nat) (Lam
     (equation 0 Nat (Var 19) (Var 0)) (Pi (Fin (Var 20)) (Fin (Var 2))))) ∷ (Lam (Fin (Var 18)) (Var 0)) ∷ (Var 2) ∷ (Var
@@ -296,7 +297,7 @@ row_down : translate (behind (sample false) (FamilyOf has_family ∷ [])) plan_d
     (Fin (Var 18)) (Fin (Var 2))))) ∷ (Lam (Fin (Var 16)) (Var 0)) ∷ (Var 16) ∷ (reflexivity 0 Nat (Var 16)) ∷ (Var 15) ∷
     [])) (Var 0)) (applied (Elim 1 0) ((Fin (Var 17)) ∷ (Var 16) ∷ (Lam (Fin (Var 17)) (Lam (equation 0 (Fin (Var 18))
     (Var 17) (Var 0)) (equation 0 Nat (suc_term (Var 19)) (suc_term (Var 19))))) ∷ (reflexivity 0 Nat (suc_term (Var 17)))
-    ∷ (Var 1) ∷ (Var 0) ∷ [])))) ∷ (Var 15) ∷ (reflexivity 0 Nat (Var 15)) ∷ (Var 2) ∷ (Var 1) ∷ [])) ∷ (applied (Con 49
+    ∷ (Var 1) ∷ (Var 0) ∷ [])))) ∷ (Var 15) ∷ (reflexivity 0 Nat (Var 15)) ∷ (Var 2) ∷ (Var 1) ∷ [])) ∷ (applied (Con (after 3)
     1) ((Var 15) ∷ (Var 2) ∷ [])) ∷ (applied (Elim 1 0) (Nat ∷ (Var 15) ∷ (Lam (Nat) (Lam (equation 0 Nat (Var 16) (Var
     0)) (Pi (Fin (Var 1)) (Pi (equation 0 (Fin (Var 2)) (applied (Elim 1 0) (Nat ∷ (Var 18) ∷ (Lam (Nat) (Lam (equation 0
     Nat (Var 19) (Var 0)) (Pi (Fin (Var 20)) (Fin (Var 2))))) ∷ (Lam (Fin (Var 18)) (Var 0)) ∷ (Var 2) ∷ (Var 1) ∷ (Var
@@ -310,8 +311,8 @@ row_down : translate (behind (sample false) (FamilyOf has_family ∷ [])) plan_d
     (Fin (Var 22)) (Fin (Var 2))))) ∷ (Lam (Fin (Var 20)) (Var 0)) ∷ (Var 20) ∷ (reflexivity 0 Nat (Var 20)) ∷ (Var 19) ∷
     [])) (Var 0)) (applied (Elim 1 0) ((Fin (Var 21)) ∷ (Var 20) ∷ (Lam (Fin (Var 21)) (Lam (equation 0 (Fin (Var 22))
     (Var 21) (Var 0)) (equation 0 Nat (suc_term (Var 23)) (suc_term (Var 23))))) ∷ (reflexivity 0 Nat (suc_term (Var 21)))
-    ∷ (Var 1) ∷ (Var 0) ∷ [])))) ∷ (Var 3) ∷ (Var 2) ∷ (Var 1) ∷ (Var 0) ∷ [])) ∷ (applied (Con 49 1) ((Var 19) ∷ (Var 18)
-    ∷ [])) ∷ [])) (applied (Con 49 1) ((Var 3) ∷ (Var 1) ∷ []))))))) ∷ (Lam (Fin (Var 15)) (Lam (equation 0 (Fin (Var 16))
+    ∷ (Var 1) ∷ (Var 0) ∷ [])))) ∷ (Var 3) ∷ (Var 2) ∷ (Var 1) ∷ (Var 0) ∷ [])) ∷ (applied (Con (after 3) 1) ((Var 19) ∷ (Var 18)
+    ∷ [])) ∷ [])) (applied (Con (after 3) 1) ((Var 3) ∷ (Var 1) ∷ []))))))) ∷ (Lam (Fin (Var 15)) (Lam (equation 0 (Fin (Var 16))
     (applied (Elim 1 0) (Nat ∷ (Var 16) ∷ (Lam (Nat) (Lam (equation 0 Nat (Var 17) (Var 0)) (Pi (Fin (Var 18)) (Fin (Var
     2))))) ∷ (Lam (Fin (Var 16)) (Var 0)) ∷ (Var 16) ∷ (reflexivity 0 Nat (Var 16)) ∷ (Var 15) ∷ [])) (Var 0)) (applied
     (Elim 1 0) ((Fin (Var 17)) ∷ (Var 16) ∷ (Lam (Fin (Var 17)) (Lam (equation 0 (Fin (Var 18)) (Var 17) (Var 0))
@@ -325,25 +326,25 @@ row_down : translate (behind (sample false) (FamilyOf has_family ∷ [])) plan_d
     (Var 2))))) ∷ (Lam (Fin (Var 20)) (Var 0)) ∷ (Var 20) ∷ (reflexivity 0 Nat (Var 20)) ∷ (Var 19) ∷ [])) (Var 0))
     (applied (Elim 1 0) ((Fin (Var 21)) ∷ (Var 20) ∷ (Lam (Fin (Var 21)) (Lam (equation 0 (Fin (Var 22)) (Var 21) (Var 0))
     (equation 0 Nat (suc_term (Var 23)) (suc_term (Var 23))))) ∷ (reflexivity 0 Nat (suc_term (Var 21))) ∷ (Var 1) ∷ (Var
-    0) ∷ [])))) ∷ (Var 19) ∷ (reflexivity 0 Nat (Var 19)) ∷ (Var 1) ∷ (Var 0) ∷ [])) ∷ (applied (Con 49 1) ((Var 19) ∷
-    (Var 18) ∷ [])) ∷ [])) (applied (Con 49 1) ((Var 19) ∷ (Var 1) ∷ []))))) ∷ (reflexivity 0 (Fin (suc_term (Var 17)))
-    (applied (Con 49 1) ((Var 17) ∷ (Var 16) ∷ []))) ∷ (Var 1) ∷ (Var 0) ∷ [])))) ∷ (Var 15) ∷ (reflexivity 0 Nat (Var
-    15)) ∷ (Var 2) ∷ (Var 1) ∷ [])) ∷ (applied (Con 52 1) ((Var 15) ∷ (Var 14) ∷ (Var 13) ∷ [])) ∷ [])) (Var 0)) (applied
-    (Fam 52) ((Var 16) ∷ (Var 3) ∷ [])))))) ∷ (Lam (applied (Fam 52) ((suc_term (Var 12)) ∷ (applied (Con 49 1) ((Var 12)
-    ∷ (Var 11) ∷ [])) ∷ [])) (Lam (equation 0 (applied (Fam 52) ((suc_term (Var 13)) ∷ (applied (Con 49 1) ((Var 13) ∷
+    0) ∷ [])))) ∷ (Var 19) ∷ (reflexivity 0 Nat (Var 19)) ∷ (Var 1) ∷ (Var 0) ∷ [])) ∷ (applied (Con (after 3) 1) ((Var 19) ∷
+    (Var 18) ∷ [])) ∷ [])) (applied (Con (after 3) 1) ((Var 19) ∷ (Var 1) ∷ []))))) ∷ (reflexivity 0 (Fin (suc_term (Var 17)))
+    (applied (Con (after 3) 1) ((Var 17) ∷ (Var 16) ∷ []))) ∷ (Var 1) ∷ (Var 0) ∷ [])))) ∷ (Var 15) ∷ (reflexivity 0 Nat (Var
+    15)) ∷ (Var 2) ∷ (Var 1) ∷ [])) ∷ (applied (Con (after 6) 1) ((Var 15) ∷ (Var 14) ∷ (Var 13) ∷ [])) ∷ [])) (Var 0)) (applied
+    (Fam (after 6)) ((Var 16) ∷ (Var 3) ∷ [])))))) ∷ (Lam (applied (Fam (after 6)) ((suc_term (Var 12)) ∷ (applied (Con (after 3) 1) ((Var 12)
+    ∷ (Var 11) ∷ [])) ∷ [])) (Lam (equation 0 (applied (Fam (after 6)) ((suc_term (Var 13)) ∷ (applied (Con (after 3) 1) ((Var 13) ∷
     (Var 12) ∷ [])) ∷ [])) (applied (Elim 1 0) (Nat ∷ (suc_term (Var 13)) ∷ (Lam (Nat) (Lam (equation 0 Nat (suc_term (Var
     14)) (Var 0)) (Pi (Fin (Var 1)) (Pi (equation 0 (Fin (Var 2)) (applied (Elim 1 0) (Nat ∷ (suc_term (Var 16)) ∷ (Lam
     (Nat) (Lam (equation 0 Nat (suc_term (Var 17)) (Var 0)) (Pi (Fin (suc_term (Var 18))) (Fin (Var 2))))) ∷ (Lam (Fin
-    (suc_term (Var 16))) (Var 0)) ∷ (Var 2) ∷ (Var 1) ∷ (applied (Con 49 1) ((Var 16) ∷ (Var 15) ∷ [])) ∷ [])) (Var 0))
-    (Pi (applied (Fam 52) ((suc_term (Var 17)) ∷ (applied (Con 49 1) ((Var 17) ∷ (Var 16) ∷ [])) ∷ [])) (applied (Fam 52)
+    (suc_term (Var 16))) (Var 0)) ∷ (Var 2) ∷ (Var 1) ∷ (applied (Con (after 3) 1) ((Var 16) ∷ (Var 15) ∷ [])) ∷ [])) (Var 0))
+    (Pi (applied (Fam (after 6)) ((suc_term (Var 17)) ∷ (applied (Con (after 3) 1) ((Var 17) ∷ (Var 16) ∷ [])) ∷ [])) (applied (Fam (after 6))
     ((Var 4) ∷ (Var 2) ∷ []))))))) ∷ (Lam (Fin (suc_term (Var 13))) (Lam (equation 0 (Fin (suc_term (Var 14))) (applied
     (Elim 1 0) (Nat ∷ (suc_term (Var 14)) ∷ (Lam (Nat) (Lam (equation 0 Nat (suc_term (Var 15)) (Var 0)) (Pi (Fin
     (suc_term (Var 16))) (Fin (Var 2))))) ∷ (Lam (Fin (suc_term (Var 14))) (Var 0)) ∷ (suc_term (Var 14)) ∷ (reflexivity 0
-    Nat (suc_term (Var 14))) ∷ (applied (Con 49 1) ((Var 14) ∷ (Var 13) ∷ [])) ∷ [])) (Var 0)) (applied (Elim 1 0) ((Fin
-    (suc_term (Var 15))) ∷ (applied (Con 49 1) ((Var 15) ∷ (Var 14) ∷ [])) ∷ (Lam (Fin (suc_term (Var 15))) (Lam (equation
-    0 (Fin (suc_term (Var 16))) (applied (Con 49 1) ((Var 16) ∷ (Var 15) ∷ [])) (Var 0)) (Pi (applied (Fam 52) ((suc_term
-    (Var 17)) ∷ (applied (Con 49 1) ((Var 17) ∷ (Var 16) ∷ [])) ∷ [])) (applied (Fam 52) ((suc_term (Var 18)) ∷ (Var 2) ∷
-    []))))) ∷ (Lam (applied (Fam 52) ((suc_term (Var 15)) ∷ (applied (Con 49 1) ((Var 15) ∷ (Var 14) ∷ [])) ∷ [])) (Var
+    Nat (suc_term (Var 14))) ∷ (applied (Con (after 3) 1) ((Var 14) ∷ (Var 13) ∷ [])) ∷ [])) (Var 0)) (applied (Elim 1 0) ((Fin
+    (suc_term (Var 15))) ∷ (applied (Con (after 3) 1) ((Var 15) ∷ (Var 14) ∷ [])) ∷ (Lam (Fin (suc_term (Var 15))) (Lam (equation
+    0 (Fin (suc_term (Var 16))) (applied (Con (after 3) 1) ((Var 16) ∷ (Var 15) ∷ [])) (Var 0)) (Pi (applied (Fam (after 6)) ((suc_term
+    (Var 17)) ∷ (applied (Con (after 3) 1) ((Var 17) ∷ (Var 16) ∷ [])) ∷ [])) (applied (Fam (after 6)) ((suc_term (Var 18)) ∷ (Var 2) ∷
+    []))))) ∷ (Lam (applied (Fam (after 6)) ((suc_term (Var 15)) ∷ (applied (Con (after 3) 1) ((Var 15) ∷ (Var 14) ∷ [])) ∷ [])) (Var
     0)) ∷ (Var 1) ∷ (Var 0) ∷ [])))) ∷ (suc_term (Var 13)) ∷ (applied (Elim 1 0) (Nat ∷ (Var 13) ∷ (Lam (Nat) (Lam
     (equation 0 Nat (Var 14) (Var 0)) (Pi (Fin (Var 1)) (Pi (equation 0 (Fin (Var 2)) (applied (Elim 1 0) (Nat ∷ (Var 16)
     ∷ (Lam (Nat) (Lam (equation 0 Nat (Var 17) (Var 0)) (Pi (Fin (Var 18)) (Fin (Var 2))))) ∷ (Lam (Fin (Var 16)) (Var 0))
@@ -353,7 +354,7 @@ row_down : translate (behind (sample false) (FamilyOf has_family ∷ [])) plan_d
     14)) ∷ (Var 13) ∷ [])) (Var 0)) (applied (Elim 1 0) ((Fin (Var 15)) ∷ (Var 14) ∷ (Lam (Fin (Var 15)) (Lam (equation 0
     (Fin (Var 16)) (Var 15) (Var 0)) (equation 0 Nat (suc_term (Var 17)) (suc_term (Var 17))))) ∷ (reflexivity 0 Nat
     (suc_term (Var 15))) ∷ (Var 1) ∷ (Var 0) ∷ [])))) ∷ (Var 13) ∷ (reflexivity 0 Nat (Var 13)) ∷ (Var 12) ∷ (reflexivity
-    0 (Fin (Var 13)) (Var 12)) ∷ [])) ∷ (applied (Con 49 1) ((Var 13) ∷ (Var 12) ∷ [])) ∷ (applied (Elim 1 0) (Nat ∷ (Var
+    0 (Fin (Var 13)) (Var 12)) ∷ [])) ∷ (applied (Con (after 3) 1) ((Var 13) ∷ (Var 12) ∷ [])) ∷ (applied (Elim 1 0) (Nat ∷ (Var
     13) ∷ (Lam (Nat) (Lam (equation 0 Nat (Var 14) (Var 0)) (Pi (Fin (Var 1)) (Pi (equation 0 (Fin (Var 2)) (applied (Elim
     1 0) (Nat ∷ (Var 16) ∷ (Lam (Nat) (Lam (equation 0 Nat (Var 17) (Var 0)) (Pi (Fin (Var 18)) (Fin (Var 2))))) ∷ (Lam
     (Fin (Var 16)) (Var 0)) ∷ (Var 2) ∷ (Var 1) ∷ (Var 15) ∷ [])) (Var 0)) (equation 0 (Fin (suc_term (Var 3))) (applied
@@ -367,7 +368,7 @@ row_down : translate (behind (sample false) (FamilyOf has_family ∷ [])) plan_d
     (Var 0)) ∷ (Var 18) ∷ (reflexivity 0 Nat (Var 18)) ∷ (Var 17) ∷ [])) (Var 0)) (applied (Elim 1 0) ((Fin (Var 19)) ∷
     (Var 18) ∷ (Lam (Fin (Var 19)) (Lam (equation 0 (Fin (Var 20)) (Var 19) (Var 0)) (equation 0 Nat (suc_term (Var 21))
     (suc_term (Var 21))))) ∷ (reflexivity 0 Nat (suc_term (Var 19))) ∷ (Var 1) ∷ (Var 0) ∷ [])))) ∷ (Var 3) ∷ (Var 2) ∷
-    (Var 1) ∷ (Var 0) ∷ [])) ∷ (applied (Con 49 1) ((Var 17) ∷ (Var 16) ∷ [])) ∷ [])) (applied (Con 49 1) ((Var 3) ∷ (Var
+    (Var 1) ∷ (Var 0) ∷ [])) ∷ (applied (Con (after 3) 1) ((Var 17) ∷ (Var 16) ∷ [])) ∷ [])) (applied (Con (after 3) 1) ((Var 3) ∷ (Var
     1) ∷ []))))))) ∷ (Lam (Fin (Var 13)) (Lam (equation 0 (Fin (Var 14)) (applied (Elim 1 0) (Nat ∷ (Var 14) ∷ (Lam (Nat)
     (Lam (equation 0 Nat (Var 15) (Var 0)) (Pi (Fin (Var 16)) (Fin (Var 2))))) ∷ (Lam (Fin (Var 14)) (Var 0)) ∷ (Var 14) ∷
     (reflexivity 0 Nat (Var 14)) ∷ (Var 13) ∷ [])) (Var 0)) (applied (Elim 1 0) ((Fin (Var 15)) ∷ (Var 14) ∷ (Lam (Fin
@@ -382,18 +383,18 @@ row_down : translate (behind (sample false) (FamilyOf has_family ∷ [])) plan_d
     (Var 18) ∷ (reflexivity 0 Nat (Var 18)) ∷ (Var 17) ∷ [])) (Var 0)) (applied (Elim 1 0) ((Fin (Var 19)) ∷ (Var 18) ∷
     (Lam (Fin (Var 19)) (Lam (equation 0 (Fin (Var 20)) (Var 19) (Var 0)) (equation 0 Nat (suc_term (Var 21)) (suc_term
     (Var 21))))) ∷ (reflexivity 0 Nat (suc_term (Var 19))) ∷ (Var 1) ∷ (Var 0) ∷ [])))) ∷ (Var 17) ∷ (reflexivity 0 Nat
-    (Var 17)) ∷ (Var 1) ∷ (Var 0) ∷ [])) ∷ (applied (Con 49 1) ((Var 17) ∷ (Var 16) ∷ [])) ∷ [])) (applied (Con 49 1)
-    ((Var 17) ∷ (Var 1) ∷ []))))) ∷ (reflexivity 0 (Fin (suc_term (Var 15))) (applied (Con 49 1) ((Var 15) ∷ (Var 14) ∷
+    (Var 17)) ∷ (Var 1) ∷ (Var 0) ∷ [])) ∷ (applied (Con (after 3) 1) ((Var 17) ∷ (Var 16) ∷ [])) ∷ [])) (applied (Con (after 3) 1)
+    ((Var 17) ∷ (Var 1) ∷ []))))) ∷ (reflexivity 0 (Fin (suc_term (Var 15))) (applied (Con (after 3) 1) ((Var 15) ∷ (Var 14) ∷
     []))) ∷ (Var 1) ∷ (Var 0) ∷ [])))) ∷ (Var 13) ∷ (reflexivity 0 Nat (Var 13)) ∷ (Var 12) ∷ (reflexivity 0 (Fin (Var
-    13)) (Var 12)) ∷ [])) ∷ (applied (Con 52 1) ((Var 13) ∷ (Var 12) ∷ (Var 11) ∷ [])) ∷ [])) (Var 0)) (applied (Elim 1 0)
-    ((applied (Fam 52) ((suc_term (Var 14)) ∷ (applied (Con 49 1) ((Var 14) ∷ (Var 13) ∷ [])) ∷ [])) ∷ (applied (Con 52 1)
-    ((Var 14) ∷ (Var 13) ∷ (Var 12) ∷ [])) ∷ (Lam (applied (Fam 52) ((suc_term (Var 14)) ∷ (applied (Con 49 1) ((Var 14) ∷
-    (Var 13) ∷ [])) ∷ [])) (Lam (equation 0 (applied (Fam 52) ((suc_term (Var 15)) ∷ (applied (Con 49 1) ((Var 15) ∷ (Var
-    14) ∷ [])) ∷ [])) (applied (Con 52 1) ((Var 15) ∷ (Var 14) ∷ (Var 13) ∷ [])) (Var 0)) (applied (Fam 52) ((Var 16) ∷
+    13)) (Var 12)) ∷ [])) ∷ (applied (Con (after 6) 1) ((Var 13) ∷ (Var 12) ∷ (Var 11) ∷ [])) ∷ [])) (Var 0)) (applied (Elim 1 0)
+    ((applied (Fam (after 6)) ((suc_term (Var 14)) ∷ (applied (Con (after 3) 1) ((Var 14) ∷ (Var 13) ∷ [])) ∷ [])) ∷ (applied (Con (after 6) 1)
+    ((Var 14) ∷ (Var 13) ∷ (Var 12) ∷ [])) ∷ (Lam (applied (Fam (after 6)) ((suc_term (Var 14)) ∷ (applied (Con (after 3) 1) ((Var 14) ∷
+    (Var 13) ∷ [])) ∷ [])) (Lam (equation 0 (applied (Fam (after 6)) ((suc_term (Var 15)) ∷ (applied (Con (after 3) 1) ((Var 15) ∷ (Var
+    14) ∷ [])) ∷ [])) (applied (Con (after 6) 1) ((Var 15) ∷ (Var 14) ∷ (Var 13) ∷ [])) (Var 0)) (applied (Fam (after 6)) ((Var 16) ∷
     (Var 15) ∷ [])))) ∷ (Var 12) ∷ (Var 1) ∷ (Var 0) ∷ [])))) ∷ (Var 3) ∷ (Var 1) ∷ (Var 2) ∷ (Var 0) ∷ [])))))) ∷ (Var
     11) ∷ (Var 2) ∷ (Var 10) ∷ (Var 9) ∷ (Var 1) ∷ (Var 0) ∷ []))))) ∷ (Var 0) ∷ [])))))))) ∷ (suc_term (Var 2)) ∷
-    (applied (Con 49 1) ((Var 2) ∷ (Var 1) ∷ [])) ∷ (Var 0) ∷ (reflexivity 0 Nat (suc_term (Var 2))) ∷ (reflexivity 0 (Fin
-    (suc_term (Var 2))) (applied (Con 49 1) ((Var 2) ∷ (Var 1) ∷ []))) ∷ (reflexivity 0 (applied (Fam 52) ((suc_term (Var
-    2)) ∷ (applied (Con 49 1) ((Var 2) ∷ (Var 1) ∷ [])) ∷ [])) (Var 0)) ∷ []))))) ∷ []))
+    (applied (Con (after 3) 1) ((Var 2) ∷ (Var 1) ∷ [])) ∷ (Var 0) ∷ (reflexivity 0 Nat (suc_term (Var 2))) ∷ (reflexivity 0 (Fin
+    (suc_term (Var 2))) (applied (Con (after 3) 1) ((Var 2) ∷ (Var 1) ∷ []))) ∷ (reflexivity 0 (applied (Fam (after 6)) ((suc_term (Var
+    2)) ∷ (applied (Con (after 3) 1) ((Var 2) ∷ (Var 1) ∷ [])) ∷ [])) (Var 0)) ∷ []))))) ∷ []))
 unfolding native.Mathlib.Decide.ℕ_discrete
 row_down = refl

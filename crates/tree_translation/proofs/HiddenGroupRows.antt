@@ -4,6 +4,8 @@ use Rattle.std.proofs.Common.{◌≡◌, false, Some, Ok, [], ◌∷◌, refl, c
 use Rattle.theory.specs.Terms.Term.{Var, Sort, Pi, Lam, App, Con, Fam, Elim, Const}
 use Rattle.theory.specs.Telescopes.{applied}
 use Rattle.theory.specs.Signatures.{equation, reflexivity, FamilyOf}
+use Rattle.theory.specs.Prelude.{unit_type, pair_type}
+use Rattle.theory.proofs.AfterPrelude.{after}
 use Rattle.core_terms.specs.Clauses.{Is, Side}
 use Rattle.core_terms.specs.Patterns as pattern
 use Rattle.core_terms.specs.Patterns.{vector}
@@ -13,119 +15,119 @@ use Rattle.tree_translation.proofs.Samples.{sample, behind, has_family, Nat, suc
 
 abbrev plan_gd : Plan
 plan_gd =
-    plan_of (behind (sample false) (FamilyOf has_family ∷ [])) 53 (codes "gd") 0 (Nat ∷ Nat ∷ Fin (Var 0) ∷ App (App (Fam
-    52) (suc_term (Var 1))) (App (App (Con 49 1) (Var 1)) (Var 0)) ∷ []) (Nat) (Some 0) (Is (vector (pattern.Con 46 0
-    pattern.nil ∷ pattern.Bind ∷ pattern.Bind ∷ pattern.Bind ∷ [])) 3 (Side (Sort 0)) ∷ Is (vector (pattern.Con 46 1
-    (vector (pattern.Bind ∷ [])) ∷ pattern.Bind ∷ pattern.Bind ∷ pattern.Con 52 1 (vector (pattern.Dot (Var 2) ∷
-    pattern.Dot (Var 1) ∷ pattern.Bind ∷ [])) ∷ [])) 4 (Side (Sort 0)) ∷ []) (Con 46 0 ∷ App (App (App (App (Const 53)
-    (Var 3)) (Var 2)) (Var 1)) (App (App (App (Con 52 1) (Var 2)) (Var 1)) (Var 0)) ∷ [])
+    plan_of (behind (sample false) (FamilyOf has_family ∷ [])) (after 7) (codes "gd") 0 (Nat ∷ Nat ∷ Fin (Var 0) ∷ App (App (Fam
+    (after 6)) (suc_term (Var 1))) (App (App (Con (after 3) 1) (Var 1)) (Var 0)) ∷ []) (Nat) (Some 0) (Is (vector (pattern.Con (after 0) 0
+    pattern.nil ∷ pattern.Bind ∷ pattern.Bind ∷ pattern.Bind ∷ [])) 3 (Side (Sort 0)) ∷ Is (vector (pattern.Con (after 0) 1
+    (vector (pattern.Bind ∷ [])) ∷ pattern.Bind ∷ pattern.Bind ∷ pattern.Con (after 6) 1 (vector (pattern.Dot (Var 2) ∷
+    pattern.Dot (Var 1) ∷ pattern.Bind ∷ [])) ∷ [])) 4 (Side (Sort 0)) ∷ []) (Con (after 0) 0 ∷ App (App (App (App (Const (after 7))
+    (Var 3)) (Var 2)) (Var 1)) (App (App (App (Con (after 6) 1) (Var 2)) (Var 1)) (Var 0)) ∷ [])
 
-row_gd : translate (behind (sample false) (FamilyOf has_family ∷ [])) plan_gd ≡ (Ok (draft (codes "gd!motive") 53 []
-    (Pi (Nat) (Sort 0)) (Lam (Nat) (Pi (Nat) (Pi (Fin (Var 0)) (Pi (applied (Fam 52) ((suc_term (Var 1)) ∷ (applied (Con
-    49 1) ((Var 1) ∷ (Var 0) ∷ [])) ∷ [])) (Nat))))) ∷ draft (codes "gd!step") 53 (codes "Nat!below.0" ∷ codes "gd!motive"
+row_gd : translate (behind (sample false) (FamilyOf has_family ∷ [])) plan_gd ≡ (Ok (draft (codes "gd!motive") (after 7) []
+    (Pi (Nat) (Sort 0)) (Lam (Nat) (Pi (Nat) (Pi (Fin (Var 0)) (Pi (applied (Fam (after 6)) ((suc_term (Var 1)) ∷ (applied (Con
+    (after 3) 1) ((Var 1) ∷ (Var 0) ∷ [])) ∷ [])) (Nat))))) ∷ draft (codes "gd!step") (after 7) (codes "Nat!below.0" ∷ codes "gd!motive"
     ∷ codes "Nat!case.0" ∷ codes "Has!case.0" ∷ codes "Fin!noconf.fzero.0" ∷ codes "Fin!noconf.fsuc.0" ∷ []) (Pi (Nat) (Pi
-    (applied (Const 53) ((Const 54) ∷ (Var 0) ∷ [])) (Pi (Nat) (Pi (Fin (Var 0)) (Pi (applied (Fam 52) ((suc_term (Var 1))
-    ∷ (applied (Con 49 1) ((Var 1) ∷ (Var 0) ∷ [])) ∷ [])) (Nat)))))) (Lam (Nat) (Lam (applied (Const 53) ((Const 54) ∷
-    (Var 0) ∷ [])) (Lam (Nat) (Lam (Fin (Var 0)) (Lam (applied (Fam 52) ((suc_term (Var 1)) ∷ (applied (Con 49 1) ((Var 1)
-    ∷ (Var 0) ∷ [])) ∷ [])) (applied (Const 55) ((Lam (Nat) (Pi (equation 0 Nat (Var 0) (Var 5)) (Nat))) ∷ (Lam (equation
-    0 Nat (Con 46 0) (Var 4)) (applied (Elim 1 0) (Nat ∷ (Con 46 0) ∷ (Lam (Nat) (Lam (equation 0 Nat (Con 46 0) (Var 0))
-    (Pi (applied (Const 53) ((Const 54) ∷ (Var 1) ∷ [])) (Nat)))) ∷ (Lam (applied (Const 53) ((Const 54) ∷ (Con 46 0) ∷
-    [])) (Con 46 0)) ∷ (Var 5) ∷ (Var 0) ∷ (Var 4) ∷ []))) ∷ (Lam (Nat) (Lam (equation 0 Nat (suc_term (Var 0)) (Var 5))
+    (applied (Const (after 7)) ((Const (after 8)) ∷ (Var 0) ∷ [])) (Pi (Nat) (Pi (Fin (Var 0)) (Pi (applied (Fam (after 6)) ((suc_term (Var 1))
+    ∷ (applied (Con (after 3) 1) ((Var 1) ∷ (Var 0) ∷ [])) ∷ [])) (Nat)))))) (Lam (Nat) (Lam (applied (Const (after 7)) ((Const (after 8)) ∷
+    (Var 0) ∷ [])) (Lam (Nat) (Lam (Fin (Var 0)) (Lam (applied (Fam (after 6)) ((suc_term (Var 1)) ∷ (applied (Con (after 3) 1) ((Var 1)
+    ∷ (Var 0) ∷ [])) ∷ [])) (applied (Const (after 9)) ((Lam (Nat) (Pi (equation 0 Nat (Var 0) (Var 5)) (Nat))) ∷ (Lam (equation
+    0 Nat (Con (after 0) 0) (Var 4)) (applied (Elim 1 0) (Nat ∷ (Con (after 0) 0) ∷ (Lam (Nat) (Lam (equation 0 Nat (Con (after 0) 0) (Var 0))
+    (Pi (applied (Const (after 7)) ((Const (after 8)) ∷ (Var 1) ∷ [])) (Nat)))) ∷ (Lam (applied (Const (after 7)) ((Const (after 8)) ∷ (Con (after 0) 0) ∷
+    [])) (Con (after 0) 0)) ∷ (Var 5) ∷ (Var 0) ∷ (Var 4) ∷ []))) ∷ (Lam (Nat) (Lam (equation 0 Nat (suc_term (Var 0)) (Var 5))
     (applied (Elim 1 0) (Nat ∷ (suc_term (Var 1)) ∷ (Lam (Nat) (Lam (equation 0 Nat (suc_term (Var 2)) (Var 0)) (Pi
-    (applied (Const 53) ((Const 54) ∷ (Var 1) ∷ [])) (Nat)))) ∷ (Lam (applied (Const 53) ((Const 54) ∷ (suc_term (Var 1))
-    ∷ [])) (applied (Const 56) ((Lam (Nat) (Lam (Fin (Var 0)) (Lam (applied (Fam 52) ((Var 1) ∷ (Var 0) ∷ [])) (Pi
+    (applied (Const (after 7)) ((Const (after 8)) ∷ (Var 1) ∷ [])) (Nat)))) ∷ (Lam (applied (Const (after 7)) ((Const (after 8)) ∷ (suc_term (Var 1))
+    ∷ [])) (applied (Const (after 10)) ((Lam (Nat) (Lam (Fin (Var 0)) (Lam (applied (Fam (after 6)) ((Var 1) ∷ (Var 0) ∷ [])) (Pi
     (equation 0 Nat (Var 2) (suc_term (Var 8))) (Pi (equation 0 (Fin (suc_term (Var 9))) (applied (Elim 1 0) (Nat ∷ (Var
     3) ∷ (Lam (Nat) (Lam (equation 0 Nat (Var 4) (Var 0)) (Pi (Fin (Var 5)) (Fin (Var 2))))) ∷ (Lam (Fin (Var 3)) (Var 0))
-    ∷ (suc_term (Var 9)) ∷ (Var 0) ∷ (Var 2) ∷ [])) (applied (Con 49 1) ((Var 9) ∷ (Var 8) ∷ []))) (Pi (equation 0
-    (applied (Fam 52) ((suc_term (Var 10)) ∷ (applied (Con 49 1) ((Var 10) ∷ (Var 9) ∷ [])) ∷ [])) (applied (Elim 1 0)
+    ∷ (suc_term (Var 9)) ∷ (Var 0) ∷ (Var 2) ∷ [])) (applied (Con (after 3) 1) ((Var 9) ∷ (Var 8) ∷ []))) (Pi (equation 0
+    (applied (Fam (after 6)) ((suc_term (Var 10)) ∷ (applied (Con (after 3) 1) ((Var 10) ∷ (Var 9) ∷ [])) ∷ [])) (applied (Elim 1 0)
     (Nat ∷ (Var 4) ∷ (Lam (Nat) (Lam (equation 0 Nat (Var 5) (Var 0)) (Pi (Fin (Var 1)) (Pi (equation 0 (Fin (Var 2))
     (applied (Elim 1 0) (Nat ∷ (Var 7) ∷ (Lam (Nat) (Lam (equation 0 Nat (Var 8) (Var 0)) (Pi (Fin (Var 9)) (Fin (Var
-    2))))) ∷ (Lam (Fin (Var 7)) (Var 0)) ∷ (Var 2) ∷ (Var 1) ∷ (Var 6) ∷ [])) (Var 0)) (Pi (applied (Fam 52) ((Var 8) ∷
-    (Var 7) ∷ [])) (applied (Fam 52) ((Var 4) ∷ (Var 2) ∷ []))))))) ∷ (Lam (Fin (Var 4)) (Lam (equation 0 (Fin (Var 5))
+    2))))) ∷ (Lam (Fin (Var 7)) (Var 0)) ∷ (Var 2) ∷ (Var 1) ∷ (Var 6) ∷ [])) (Var 0)) (Pi (applied (Fam (after 6)) ((Var 8) ∷
+    (Var 7) ∷ [])) (applied (Fam (after 6)) ((Var 4) ∷ (Var 2) ∷ []))))))) ∷ (Lam (Fin (Var 4)) (Lam (equation 0 (Fin (Var 5))
     (applied (Elim 1 0) (Nat ∷ (Var 5) ∷ (Lam (Nat) (Lam (equation 0 Nat (Var 6) (Var 0)) (Pi (Fin (Var 7)) (Fin (Var
     2))))) ∷ (Lam (Fin (Var 5)) (Var 0)) ∷ (Var 5) ∷ (reflexivity 0 Nat (Var 5)) ∷ (Var 4) ∷ [])) (Var 0)) (applied (Elim
     1 0) ((Fin (Var 6)) ∷ (Var 5) ∷ (Lam (Fin (Var 6)) (Lam (equation 0 (Fin (Var 7)) (Var 6) (Var 0)) (Pi (applied (Fam
-    52) ((Var 8) ∷ (Var 7) ∷ [])) (applied (Fam 52) ((Var 9) ∷ (Var 2) ∷ []))))) ∷ (Lam (applied (Fam 52) ((Var 6) ∷ (Var
-    5) ∷ [])) (Var 0)) ∷ (Var 1) ∷ (Var 0) ∷ [])))) ∷ (suc_term (Var 10)) ∷ (Var 1) ∷ (applied (Con 49 1) ((Var 10) ∷ (Var
+    (after 6)) ((Var 8) ∷ (Var 7) ∷ [])) (applied (Fam (after 6)) ((Var 9) ∷ (Var 2) ∷ []))))) ∷ (Lam (applied (Fam (after 6)) ((Var 6) ∷ (Var
+    5) ∷ [])) (Var 0)) ∷ (Var 1) ∷ (Var 0) ∷ [])))) ∷ (suc_term (Var 10)) ∷ (Var 1) ∷ (applied (Con (after 3) 1) ((Var 10) ∷ (Var
     9) ∷ [])) ∷ (Var 0) ∷ (Var 2) ∷ [])) (Var 8)) (Nat))))))) ∷ (Lam (Nat) (Lam (equation 0 Nat (suc_term (Var 0))
     (suc_term (Var 6))) (Lam (equation 0 (Fin (suc_term (Var 7))) (applied (Elim 1 0) (Nat ∷ (suc_term (Var 1)) ∷ (Lam
     (Nat) (Lam (equation 0 Nat (suc_term (Var 2)) (Var 0)) (Pi (Fin (suc_term (Var 3))) (Fin (Var 2))))) ∷ (Lam (Fin
-    (suc_term (Var 1))) (Var 0)) ∷ (suc_term (Var 7)) ∷ (Var 0) ∷ (App (Con 49 0) (Var 1)) ∷ [])) (applied (Con 49 1)
-    ((Var 7) ∷ (Var 6) ∷ []))) (Lam (equation 0 (applied (Fam 52) ((suc_term (Var 8)) ∷ (applied (Con 49 1) ((Var 8) ∷
+    (suc_term (Var 1))) (Var 0)) ∷ (suc_term (Var 7)) ∷ (Var 0) ∷ (App (Con (after 3) 0) (Var 1)) ∷ [])) (applied (Con (after 3) 1)
+    ((Var 7) ∷ (Var 6) ∷ []))) (Lam (equation 0 (applied (Fam (after 6)) ((suc_term (Var 8)) ∷ (applied (Con (after 3) 1) ((Var 8) ∷
     (Var 7) ∷ [])) ∷ [])) (applied (Elim 1 0) (Nat ∷ (suc_term (Var 2)) ∷ (Lam (Nat) (Lam (equation 0 Nat (suc_term (Var
     3)) (Var 0)) (Pi (Fin (Var 1)) (Pi (equation 0 (Fin (Var 2)) (applied (Elim 1 0) (Nat ∷ (suc_term (Var 5)) ∷ (Lam
     (Nat) (Lam (equation 0 Nat (suc_term (Var 6)) (Var 0)) (Pi (Fin (suc_term (Var 7))) (Fin (Var 2))))) ∷ (Lam (Fin
-    (suc_term (Var 5))) (Var 0)) ∷ (Var 2) ∷ (Var 1) ∷ (App (Con 49 0) (Var 5)) ∷ [])) (Var 0)) (Pi (applied (Fam 52)
-    ((suc_term (Var 6)) ∷ (App (Con 49 0) (Var 6)) ∷ [])) (applied (Fam 52) ((Var 4) ∷ (Var 2) ∷ []))))))) ∷ (Lam (Fin
+    (suc_term (Var 5))) (Var 0)) ∷ (Var 2) ∷ (Var 1) ∷ (App (Con (after 3) 0) (Var 5)) ∷ [])) (Var 0)) (Pi (applied (Fam (after 6))
+    ((suc_term (Var 6)) ∷ (App (Con (after 3) 0) (Var 6)) ∷ [])) (applied (Fam (after 6)) ((Var 4) ∷ (Var 2) ∷ []))))))) ∷ (Lam (Fin
     (suc_term (Var 2))) (Lam (equation 0 (Fin (suc_term (Var 3))) (applied (Elim 1 0) (Nat ∷ (suc_term (Var 3)) ∷ (Lam
     (Nat) (Lam (equation 0 Nat (suc_term (Var 4)) (Var 0)) (Pi (Fin (suc_term (Var 5))) (Fin (Var 2))))) ∷ (Lam (Fin
-    (suc_term (Var 3))) (Var 0)) ∷ (suc_term (Var 3)) ∷ (reflexivity 0 Nat (suc_term (Var 3))) ∷ (App (Con 49 0) (Var 3))
-    ∷ [])) (Var 0)) (applied (Elim 1 0) ((Fin (suc_term (Var 4))) ∷ (App (Con 49 0) (Var 4)) ∷ (Lam (Fin (suc_term (Var
-    4))) (Lam (equation 0 (Fin (suc_term (Var 5))) (App (Con 49 0) (Var 5)) (Var 0)) (Pi (applied (Fam 52) ((suc_term (Var
-    6)) ∷ (App (Con 49 0) (Var 6)) ∷ [])) (applied (Fam 52) ((suc_term (Var 7)) ∷ (Var 2) ∷ []))))) ∷ (Lam (applied (Fam
-    52) ((suc_term (Var 4)) ∷ (App (Con 49 0) (Var 4)) ∷ [])) (Var 0)) ∷ (Var 1) ∷ (Var 0) ∷ [])))) ∷ (suc_term (Var 8)) ∷
-    (Var 1) ∷ (applied (Con 49 1) ((Var 8) ∷ (Var 7) ∷ [])) ∷ (Var 0) ∷ (App (Con 52 0) (Var 2)) ∷ [])) (Var 6)) (applied
-    (Const 57) ((Var 3) ∷ (suc_term (Var 9)) ∷ (applied (Con 49 1) ((Var 9) ∷ (Var 8) ∷ [])) ∷ (Var 2) ∷ (Var 1) ∷ (Lam
+    (suc_term (Var 3))) (Var 0)) ∷ (suc_term (Var 3)) ∷ (reflexivity 0 Nat (suc_term (Var 3))) ∷ (App (Con (after 3) 0) (Var 3))
+    ∷ [])) (Var 0)) (applied (Elim 1 0) ((Fin (suc_term (Var 4))) ∷ (App (Con (after 3) 0) (Var 4)) ∷ (Lam (Fin (suc_term (Var
+    4))) (Lam (equation 0 (Fin (suc_term (Var 5))) (App (Con (after 3) 0) (Var 5)) (Var 0)) (Pi (applied (Fam (after 6)) ((suc_term (Var
+    6)) ∷ (App (Con (after 3) 0) (Var 6)) ∷ [])) (applied (Fam (after 6)) ((suc_term (Var 7)) ∷ (Var 2) ∷ []))))) ∷ (Lam (applied (Fam
+    (after 6)) ((suc_term (Var 4)) ∷ (App (Con (after 3) 0) (Var 4)) ∷ [])) (Var 0)) ∷ (Var 1) ∷ (Var 0) ∷ [])))) ∷ (suc_term (Var 8)) ∷
+    (Var 1) ∷ (applied (Con (after 3) 1) ((Var 8) ∷ (Var 7) ∷ [])) ∷ (Var 0) ∷ (App (Con (after 6) 0) (Var 2)) ∷ [])) (Var 6)) (applied
+    (Const (after 11)) ((Var 3) ∷ (suc_term (Var 9)) ∷ (applied (Con (after 3) 1) ((Var 9) ∷ (Var 8) ∷ [])) ∷ (Var 2) ∷ (Var 1) ∷ (Lam
     (equation 0 Nat (suc_term (Var 3)) (suc_term (Var 9))) (Lam (equation 0 (Fin (suc_term (Var 10))) (applied (Elim 1 0)
     (Nat ∷ (suc_term (Var 4)) ∷ (Lam (Nat) (Lam (equation 0 Nat (suc_term (Var 5)) (Var 0)) (Pi (Fin (suc_term (Var 6)))
-    (Fin (Var 2))))) ∷ (Lam (Fin (suc_term (Var 4))) (Var 0)) ∷ (suc_term (Var 10)) ∷ (Var 0) ∷ (App (Con 49 0) (Var 4)) ∷
-    [])) (applied (Con 49 1) ((Var 10) ∷ (Var 9) ∷ []))) (Nat))) ∷ [])))))) ∷ (Lam (Nat) (Lam (Fin (Var 0)) (Lam (applied
-    (Fam 52) ((Var 1) ∷ (Var 0) ∷ [])) (Lam (equation 0 Nat (suc_term (Var 2)) (suc_term (Var 8))) (Lam (equation 0 (Fin
+    (Fin (Var 2))))) ∷ (Lam (Fin (suc_term (Var 4))) (Var 0)) ∷ (suc_term (Var 10)) ∷ (Var 0) ∷ (App (Con (after 3) 0) (Var 4)) ∷
+    [])) (applied (Con (after 3) 1) ((Var 10) ∷ (Var 9) ∷ []))) (Nat))) ∷ [])))))) ∷ (Lam (Nat) (Lam (Fin (Var 0)) (Lam (applied
+    (Fam (after 6)) ((Var 1) ∷ (Var 0) ∷ [])) (Lam (equation 0 Nat (suc_term (Var 2)) (suc_term (Var 8))) (Lam (equation 0 (Fin
     (suc_term (Var 9))) (applied (Elim 1 0) (Nat ∷ (suc_term (Var 3)) ∷ (Lam (Nat) (Lam (equation 0 Nat (suc_term (Var 4))
     (Var 0)) (Pi (Fin (suc_term (Var 5))) (Fin (Var 2))))) ∷ (Lam (Fin (suc_term (Var 3))) (Var 0)) ∷ (suc_term (Var 9)) ∷
-    (Var 0) ∷ (applied (Con 49 1) ((Var 3) ∷ (Var 2) ∷ [])) ∷ [])) (applied (Con 49 1) ((Var 9) ∷ (Var 8) ∷ []))) (Lam
-    (equation 0 (applied (Fam 52) ((suc_term (Var 10)) ∷ (applied (Con 49 1) ((Var 10) ∷ (Var 9) ∷ [])) ∷ [])) (applied
+    (Var 0) ∷ (applied (Con (after 3) 1) ((Var 3) ∷ (Var 2) ∷ [])) ∷ [])) (applied (Con (after 3) 1) ((Var 9) ∷ (Var 8) ∷ []))) (Lam
+    (equation 0 (applied (Fam (after 6)) ((suc_term (Var 10)) ∷ (applied (Con (after 3) 1) ((Var 10) ∷ (Var 9) ∷ [])) ∷ [])) (applied
     (Elim 1 0) (Nat ∷ (suc_term (Var 4)) ∷ (Lam (Nat) (Lam (equation 0 Nat (suc_term (Var 5)) (Var 0)) (Pi (Fin (Var 1))
     (Pi (equation 0 (Fin (Var 2)) (applied (Elim 1 0) (Nat ∷ (suc_term (Var 7)) ∷ (Lam (Nat) (Lam (equation 0 Nat
     (suc_term (Var 8)) (Var 0)) (Pi (Fin (suc_term (Var 9))) (Fin (Var 2))))) ∷ (Lam (Fin (suc_term (Var 7))) (Var 0)) ∷
-    (Var 2) ∷ (Var 1) ∷ (applied (Con 49 1) ((Var 7) ∷ (Var 6) ∷ [])) ∷ [])) (Var 0)) (Pi (applied (Fam 52) ((suc_term
-    (Var 8)) ∷ (applied (Con 49 1) ((Var 8) ∷ (Var 7) ∷ [])) ∷ [])) (applied (Fam 52) ((Var 4) ∷ (Var 2) ∷ []))))))) ∷
+    (Var 2) ∷ (Var 1) ∷ (applied (Con (after 3) 1) ((Var 7) ∷ (Var 6) ∷ [])) ∷ [])) (Var 0)) (Pi (applied (Fam (after 6)) ((suc_term
+    (Var 8)) ∷ (applied (Con (after 3) 1) ((Var 8) ∷ (Var 7) ∷ [])) ∷ [])) (applied (Fam (after 6)) ((Var 4) ∷ (Var 2) ∷ []))))))) ∷
     (Lam (Fin (suc_term (Var 4))) (Lam (equation 0 (Fin (suc_term (Var 5))) (applied (Elim 1 0) (Nat ∷ (suc_term (Var 5))
     ∷ (Lam (Nat) (Lam (equation 0 Nat (suc_term (Var 6)) (Var 0)) (Pi (Fin (suc_term (Var 7))) (Fin (Var 2))))) ∷ (Lam
-    (Fin (suc_term (Var 5))) (Var 0)) ∷ (suc_term (Var 5)) ∷ (reflexivity 0 Nat (suc_term (Var 5))) ∷ (applied (Con 49 1)
-    ((Var 5) ∷ (Var 4) ∷ [])) ∷ [])) (Var 0)) (applied (Elim 1 0) ((Fin (suc_term (Var 6))) ∷ (applied (Con 49 1) ((Var 6)
-    ∷ (Var 5) ∷ [])) ∷ (Lam (Fin (suc_term (Var 6))) (Lam (equation 0 (Fin (suc_term (Var 7))) (applied (Con 49 1) ((Var
-    7) ∷ (Var 6) ∷ [])) (Var 0)) (Pi (applied (Fam 52) ((suc_term (Var 8)) ∷ (applied (Con 49 1) ((Var 8) ∷ (Var 7) ∷ []))
-    ∷ [])) (applied (Fam 52) ((suc_term (Var 9)) ∷ (Var 2) ∷ []))))) ∷ (Lam (applied (Fam 52) ((suc_term (Var 6)) ∷
-    (applied (Con 49 1) ((Var 6) ∷ (Var 5) ∷ [])) ∷ [])) (Var 0)) ∷ (Var 1) ∷ (Var 0) ∷ [])))) ∷ (suc_term (Var 10)) ∷
-    (Var 1) ∷ (applied (Con 49 1) ((Var 10) ∷ (Var 9) ∷ [])) ∷ (Var 0) ∷ (applied (Con 52 1) ((Var 4) ∷ (Var 3) ∷ (Var 2)
-    ∷ [])) ∷ [])) (Var 8)) (applied (Const 58) ((Var 5) ∷ (Var 4) ∷ (suc_term (Var 11)) ∷ (applied (Con 49 1) ((Var 11) ∷
+    (Fin (suc_term (Var 5))) (Var 0)) ∷ (suc_term (Var 5)) ∷ (reflexivity 0 Nat (suc_term (Var 5))) ∷ (applied (Con (after 3) 1)
+    ((Var 5) ∷ (Var 4) ∷ [])) ∷ [])) (Var 0)) (applied (Elim 1 0) ((Fin (suc_term (Var 6))) ∷ (applied (Con (after 3) 1) ((Var 6)
+    ∷ (Var 5) ∷ [])) ∷ (Lam (Fin (suc_term (Var 6))) (Lam (equation 0 (Fin (suc_term (Var 7))) (applied (Con (after 3) 1) ((Var
+    7) ∷ (Var 6) ∷ [])) (Var 0)) (Pi (applied (Fam (after 6)) ((suc_term (Var 8)) ∷ (applied (Con (after 3) 1) ((Var 8) ∷ (Var 7) ∷ []))
+    ∷ [])) (applied (Fam (after 6)) ((suc_term (Var 9)) ∷ (Var 2) ∷ []))))) ∷ (Lam (applied (Fam (after 6)) ((suc_term (Var 6)) ∷
+    (applied (Con (after 3) 1) ((Var 6) ∷ (Var 5) ∷ [])) ∷ [])) (Var 0)) ∷ (Var 1) ∷ (Var 0) ∷ [])))) ∷ (suc_term (Var 10)) ∷
+    (Var 1) ∷ (applied (Con (after 3) 1) ((Var 10) ∷ (Var 9) ∷ [])) ∷ (Var 0) ∷ (applied (Con (after 6) 1) ((Var 4) ∷ (Var 3) ∷ (Var 2)
+    ∷ [])) ∷ [])) (Var 8)) (applied (Const (after 12)) ((Var 5) ∷ (Var 4) ∷ (suc_term (Var 11)) ∷ (applied (Con (after 3) 1) ((Var 11) ∷
     (Var 10) ∷ [])) ∷ (Var 2) ∷ (Var 1) ∷ (Lam (equation 0 Nat (suc_term (Var 5)) (suc_term (Var 11))) (Lam (equation 0
     (Fin (suc_term (Var 12))) (applied (Elim 1 0) (Nat ∷ (suc_term (Var 6)) ∷ (Lam (Nat) (Lam (equation 0 Nat (suc_term
     (Var 7)) (Var 0)) (Pi (Fin (suc_term (Var 8))) (Fin (Var 2))))) ∷ (Lam (Fin (suc_term (Var 6))) (Var 0)) ∷ (suc_term
-    (Var 12)) ∷ (Var 0) ∷ (applied (Con 49 1) ((Var 6) ∷ (Var 5) ∷ [])) ∷ [])) (applied (Con 49 1) ((Var 12) ∷ (Var 11) ∷
-    []))) (Pi (equation 0 (applied (Fam 52) ((suc_term (Var 13)) ∷ (applied (Con 49 1) ((Var 13) ∷ (Var 12) ∷ [])) ∷ []))
+    (Var 12)) ∷ (Var 0) ∷ (applied (Con (after 3) 1) ((Var 6) ∷ (Var 5) ∷ [])) ∷ [])) (applied (Con (after 3) 1) ((Var 12) ∷ (Var 11) ∷
+    []))) (Pi (equation 0 (applied (Fam (after 6)) ((suc_term (Var 13)) ∷ (applied (Con (after 3) 1) ((Var 13) ∷ (Var 12) ∷ [])) ∷ []))
     (applied (Elim 1 0) (Nat ∷ (suc_term (Var 7)) ∷ (Lam (Nat) (Lam (equation 0 Nat (suc_term (Var 8)) (Var 0)) (Pi (Fin
     (Var 1)) (Pi (equation 0 (Fin (Var 2)) (applied (Elim 1 0) (Nat ∷ (suc_term (Var 10)) ∷ (Lam (Nat) (Lam (equation 0
     Nat (suc_term (Var 11)) (Var 0)) (Pi (Fin (suc_term (Var 12))) (Fin (Var 2))))) ∷ (Lam (Fin (suc_term (Var 10))) (Var
-    0)) ∷ (Var 2) ∷ (Var 1) ∷ (applied (Con 49 1) ((Var 10) ∷ (Var 9) ∷ [])) ∷ [])) (Var 0)) (Pi (applied (Fam 52)
-    ((suc_term (Var 11)) ∷ (applied (Con 49 1) ((Var 11) ∷ (Var 10) ∷ [])) ∷ [])) (applied (Fam 52) ((Var 4) ∷ (Var 2) ∷
+    0)) ∷ (Var 2) ∷ (Var 1) ∷ (applied (Con (after 3) 1) ((Var 10) ∷ (Var 9) ∷ [])) ∷ [])) (Var 0)) (Pi (applied (Fam (after 6))
+    ((suc_term (Var 11)) ∷ (applied (Con (after 3) 1) ((Var 11) ∷ (Var 10) ∷ [])) ∷ [])) (applied (Fam (after 6)) ((Var 4) ∷ (Var 2) ∷
     []))))))) ∷ (Lam (Fin (suc_term (Var 7))) (Lam (equation 0 (Fin (suc_term (Var 8))) (applied (Elim 1 0) (Nat ∷
     (suc_term (Var 8)) ∷ (Lam (Nat) (Lam (equation 0 Nat (suc_term (Var 9)) (Var 0)) (Pi (Fin (suc_term (Var 10))) (Fin
     (Var 2))))) ∷ (Lam (Fin (suc_term (Var 8))) (Var 0)) ∷ (suc_term (Var 8)) ∷ (reflexivity 0 Nat (suc_term (Var 8))) ∷
-    (applied (Con 49 1) ((Var 8) ∷ (Var 7) ∷ [])) ∷ [])) (Var 0)) (applied (Elim 1 0) ((Fin (suc_term (Var 9))) ∷ (applied
-    (Con 49 1) ((Var 9) ∷ (Var 8) ∷ [])) ∷ (Lam (Fin (suc_term (Var 9))) (Lam (equation 0 (Fin (suc_term (Var 10)))
-    (applied (Con 49 1) ((Var 10) ∷ (Var 9) ∷ [])) (Var 0)) (Pi (applied (Fam 52) ((suc_term (Var 11)) ∷ (applied (Con 49
-    1) ((Var 11) ∷ (Var 10) ∷ [])) ∷ [])) (applied (Fam 52) ((suc_term (Var 12)) ∷ (Var 2) ∷ []))))) ∷ (Lam (applied (Fam
-    52) ((suc_term (Var 9)) ∷ (applied (Con 49 1) ((Var 9) ∷ (Var 8) ∷ [])) ∷ [])) (Var 0)) ∷ (Var 1) ∷ (Var 0) ∷ [])))) ∷
-    (suc_term (Var 13)) ∷ (Var 1) ∷ (applied (Con 49 1) ((Var 13) ∷ (Var 12) ∷ [])) ∷ (Var 0) ∷ (applied (Con 52 1) ((Var
+    (applied (Con (after 3) 1) ((Var 8) ∷ (Var 7) ∷ [])) ∷ [])) (Var 0)) (applied (Elim 1 0) ((Fin (suc_term (Var 9))) ∷ (applied
+    (Con (after 3) 1) ((Var 9) ∷ (Var 8) ∷ [])) ∷ (Lam (Fin (suc_term (Var 9))) (Lam (equation 0 (Fin (suc_term (Var 10)))
+    (applied (Con (after 3) 1) ((Var 10) ∷ (Var 9) ∷ [])) (Var 0)) (Pi (applied (Fam (after 6)) ((suc_term (Var 11)) ∷ (applied (Con (after 3)
+    1) ((Var 11) ∷ (Var 10) ∷ [])) ∷ [])) (applied (Fam (after 6)) ((suc_term (Var 12)) ∷ (Var 2) ∷ []))))) ∷ (Lam (applied (Fam
+    (after 6)) ((suc_term (Var 9)) ∷ (applied (Con (after 3) 1) ((Var 9) ∷ (Var 8) ∷ [])) ∷ [])) (Var 0)) ∷ (Var 1) ∷ (Var 0) ∷ [])))) ∷
+    (suc_term (Var 13)) ∷ (Var 1) ∷ (applied (Con (after 3) 1) ((Var 13) ∷ (Var 12) ∷ [])) ∷ (Var 0) ∷ (applied (Con (after 6) 1) ((Var
     7) ∷ (Var 6) ∷ (Var 5) ∷ [])) ∷ [])) (Var 11)) (Nat)))) ∷ (Lam (equation 0 Nat (Var 5) (Var 11)) (Lam (equation 0 (Fin
     (Var 12)) (applied (Elim 1 0) (Nat ∷ (Var 6) ∷ (Lam (Nat) (Lam (equation 0 Nat (Var 7) (Var 0)) (Pi (Fin (Var 8)) (Fin
     (Var 2))))) ∷ (Lam (Fin (Var 6)) (Var 0)) ∷ (Var 12) ∷ (Var 0) ∷ (Var 5) ∷ [])) (Var 11)) (Lam (equation 0 (applied
-    (Fam 52) ((suc_term (Var 13)) ∷ (applied (Con 49 1) ((Var 13) ∷ (Var 12) ∷ [])) ∷ [])) (applied (Elim 1 0) (Nat ∷
+    (Fam (after 6)) ((suc_term (Var 13)) ∷ (applied (Con (after 3) 1) ((Var 13) ∷ (Var 12) ∷ [])) ∷ [])) (applied (Elim 1 0) (Nat ∷
     (suc_term (Var 7)) ∷ (Lam (Nat) (Lam (equation 0 Nat (suc_term (Var 8)) (Var 0)) (Pi (Fin (Var 1)) (Pi (equation 0
     (Fin (Var 2)) (applied (Elim 1 0) (Nat ∷ (suc_term (Var 10)) ∷ (Lam (Nat) (Lam (equation 0 Nat (suc_term (Var 11))
     (Var 0)) (Pi (Fin (suc_term (Var 12))) (Fin (Var 2))))) ∷ (Lam (Fin (suc_term (Var 10))) (Var 0)) ∷ (Var 2) ∷ (Var 1)
-    ∷ (applied (Con 49 1) ((Var 10) ∷ (Var 9) ∷ [])) ∷ [])) (Var 0)) (Pi (applied (Fam 52) ((suc_term (Var 11)) ∷ (applied
-    (Con 49 1) ((Var 11) ∷ (Var 10) ∷ [])) ∷ [])) (applied (Fam 52) ((Var 4) ∷ (Var 2) ∷ []))))))) ∷ (Lam (Fin (suc_term
+    ∷ (applied (Con (after 3) 1) ((Var 10) ∷ (Var 9) ∷ [])) ∷ [])) (Var 0)) (Pi (applied (Fam (after 6)) ((suc_term (Var 11)) ∷ (applied
+    (Con (after 3) 1) ((Var 11) ∷ (Var 10) ∷ [])) ∷ [])) (applied (Fam (after 6)) ((Var 4) ∷ (Var 2) ∷ []))))))) ∷ (Lam (Fin (suc_term
     (Var 7))) (Lam (equation 0 (Fin (suc_term (Var 8))) (applied (Elim 1 0) (Nat ∷ (suc_term (Var 8)) ∷ (Lam (Nat) (Lam
     (equation 0 Nat (suc_term (Var 9)) (Var 0)) (Pi (Fin (suc_term (Var 10))) (Fin (Var 2))))) ∷ (Lam (Fin (suc_term (Var
-    8))) (Var 0)) ∷ (suc_term (Var 8)) ∷ (reflexivity 0 Nat (suc_term (Var 8))) ∷ (applied (Con 49 1) ((Var 8) ∷ (Var 7) ∷
-    [])) ∷ [])) (Var 0)) (applied (Elim 1 0) ((Fin (suc_term (Var 9))) ∷ (applied (Con 49 1) ((Var 9) ∷ (Var 8) ∷ [])) ∷
-    (Lam (Fin (suc_term (Var 9))) (Lam (equation 0 (Fin (suc_term (Var 10))) (applied (Con 49 1) ((Var 10) ∷ (Var 9) ∷
-    [])) (Var 0)) (Pi (applied (Fam 52) ((suc_term (Var 11)) ∷ (applied (Con 49 1) ((Var 11) ∷ (Var 10) ∷ [])) ∷ []))
-    (applied (Fam 52) ((suc_term (Var 12)) ∷ (Var 2) ∷ []))))) ∷ (Lam (applied (Fam 52) ((suc_term (Var 9)) ∷ (applied
-    (Con 49 1) ((Var 9) ∷ (Var 8) ∷ [])) ∷ [])) (Var 0)) ∷ (Var 1) ∷ (Var 0) ∷ [])))) ∷ (suc_term (Var 13)) ∷ (applied
+    8))) (Var 0)) ∷ (suc_term (Var 8)) ∷ (reflexivity 0 Nat (suc_term (Var 8))) ∷ (applied (Con (after 3) 1) ((Var 8) ∷ (Var 7) ∷
+    [])) ∷ [])) (Var 0)) (applied (Elim 1 0) ((Fin (suc_term (Var 9))) ∷ (applied (Con (after 3) 1) ((Var 9) ∷ (Var 8) ∷ [])) ∷
+    (Lam (Fin (suc_term (Var 9))) (Lam (equation 0 (Fin (suc_term (Var 10))) (applied (Con (after 3) 1) ((Var 10) ∷ (Var 9) ∷
+    [])) (Var 0)) (Pi (applied (Fam (after 6)) ((suc_term (Var 11)) ∷ (applied (Con (after 3) 1) ((Var 11) ∷ (Var 10) ∷ [])) ∷ []))
+    (applied (Fam (after 6)) ((suc_term (Var 12)) ∷ (Var 2) ∷ []))))) ∷ (Lam (applied (Fam (after 6)) ((suc_term (Var 9)) ∷ (applied
+    (Con (after 3) 1) ((Var 9) ∷ (Var 8) ∷ [])) ∷ [])) (Var 0)) ∷ (Var 1) ∷ (Var 0) ∷ [])))) ∷ (suc_term (Var 13)) ∷ (applied
     (Elim 1 0) (Nat ∷ (Var 7) ∷ (Lam (Nat) (Lam (equation 0 Nat (Var 8) (Var 0)) (Pi (Fin (Var 1)) (Pi (equation 0 (Fin
     (Var 2)) (applied (Elim 1 0) (Nat ∷ (Var 10) ∷ (Lam (Nat) (Lam (equation 0 Nat (Var 11) (Var 0)) (Pi (Fin (Var 12))
     (Fin (Var 2))))) ∷ (Lam (Fin (Var 10)) (Var 0)) ∷ (Var 2) ∷ (Var 1) ∷ (Var 9) ∷ [])) (Var 0)) (equation 0 Nat
@@ -134,7 +136,7 @@ row_gd : translate (behind (sample false) (FamilyOf has_family ∷ [])) plan_gd 
     8)) (Var 0)) ∷ (Var 8) ∷ (reflexivity 0 Nat (Var 8)) ∷ (Var 7) ∷ [])) (Var 0)) (applied (Elim 1 0) ((Fin (Var 9)) ∷
     (Var 8) ∷ (Lam (Fin (Var 9)) (Lam (equation 0 (Fin (Var 10)) (Var 9) (Var 0)) (equation 0 Nat (suc_term (Var 11))
     (suc_term (Var 11))))) ∷ (reflexivity 0 Nat (suc_term (Var 9))) ∷ (Var 1) ∷ (Var 0) ∷ [])))) ∷ (Var 13) ∷ (Var 1) ∷
-    (Var 12) ∷ (Var 0) ∷ [])) ∷ (applied (Con 49 1) ((Var 13) ∷ (Var 12) ∷ [])) ∷ (applied (Elim 1 0) (Nat ∷ (Var 7) ∷
+    (Var 12) ∷ (Var 0) ∷ [])) ∷ (applied (Con (after 3) 1) ((Var 13) ∷ (Var 12) ∷ [])) ∷ (applied (Elim 1 0) (Nat ∷ (Var 7) ∷
     (Lam (Nat) (Lam (equation 0 Nat (Var 8) (Var 0)) (Pi (Fin (Var 1)) (Pi (equation 0 (Fin (Var 2)) (applied (Elim 1 0)
     (Nat ∷ (Var 10) ∷ (Lam (Nat) (Lam (equation 0 Nat (Var 11) (Var 0)) (Pi (Fin (Var 12)) (Fin (Var 2))))) ∷ (Lam (Fin
     (Var 10)) (Var 0)) ∷ (Var 2) ∷ (Var 1) ∷ (Var 9) ∷ [])) (Var 0)) (equation 0 (Fin (suc_term (Var 3))) (applied (Elim 1
@@ -148,7 +150,7 @@ row_gd : translate (behind (sample false) (FamilyOf has_family ∷ [])) plan_gd 
     (Var 12) ∷ (reflexivity 0 Nat (Var 12)) ∷ (Var 11) ∷ [])) (Var 0)) (applied (Elim 1 0) ((Fin (Var 13)) ∷ (Var 12) ∷
     (Lam (Fin (Var 13)) (Lam (equation 0 (Fin (Var 14)) (Var 13) (Var 0)) (equation 0 Nat (suc_term (Var 15)) (suc_term
     (Var 15))))) ∷ (reflexivity 0 Nat (suc_term (Var 13))) ∷ (Var 1) ∷ (Var 0) ∷ [])))) ∷ (Var 3) ∷ (Var 2) ∷ (Var 1) ∷
-    (Var 0) ∷ [])) ∷ (applied (Con 49 1) ((Var 11) ∷ (Var 10) ∷ [])) ∷ [])) (applied (Con 49 1) ((Var 3) ∷ (Var 1) ∷
+    (Var 0) ∷ [])) ∷ (applied (Con (after 3) 1) ((Var 11) ∷ (Var 10) ∷ [])) ∷ [])) (applied (Con (after 3) 1) ((Var 3) ∷ (Var 1) ∷
     []))))))) ∷ (Lam (Fin (Var 7)) (Lam (equation 0 (Fin (Var 8)) (applied (Elim 1 0) (Nat ∷ (Var 8) ∷ (Lam (Nat) (Lam
     (equation 0 Nat (Var 9) (Var 0)) (Pi (Fin (Var 10)) (Fin (Var 2))))) ∷ (Lam (Fin (Var 8)) (Var 0)) ∷ (Var 8) ∷
     (reflexivity 0 Nat (Var 8)) ∷ (Var 7) ∷ [])) (Var 0)) (applied (Elim 1 0) ((Fin (Var 9)) ∷ (Var 8) ∷ (Lam (Fin (Var
@@ -163,27 +165,27 @@ row_gd : translate (behind (sample false) (FamilyOf has_family ∷ [])) plan_gd 
     (reflexivity 0 Nat (Var 12)) ∷ (Var 11) ∷ [])) (Var 0)) (applied (Elim 1 0) ((Fin (Var 13)) ∷ (Var 12) ∷ (Lam (Fin
     (Var 13)) (Lam (equation 0 (Fin (Var 14)) (Var 13) (Var 0)) (equation 0 Nat (suc_term (Var 15)) (suc_term (Var 15)))))
     ∷ (reflexivity 0 Nat (suc_term (Var 13))) ∷ (Var 1) ∷ (Var 0) ∷ [])))) ∷ (Var 11) ∷ (reflexivity 0 Nat (Var 11)) ∷
-    (Var 1) ∷ (Var 0) ∷ [])) ∷ (applied (Con 49 1) ((Var 11) ∷ (Var 10) ∷ [])) ∷ [])) (applied (Con 49 1) ((Var 11) ∷ (Var
-    1) ∷ []))))) ∷ (reflexivity 0 (Fin (suc_term (Var 9))) (applied (Con 49 1) ((Var 9) ∷ (Var 8) ∷ []))) ∷ (Var 1) ∷ (Var
-    0) ∷ [])))) ∷ (Var 13) ∷ (Var 1) ∷ (Var 12) ∷ (Var 0) ∷ [])) ∷ (applied (Con 52 1) ((Var 7) ∷ (Var 6) ∷ (Var 5) ∷ []))
+    (Var 1) ∷ (Var 0) ∷ [])) ∷ (applied (Con (after 3) 1) ((Var 11) ∷ (Var 10) ∷ [])) ∷ [])) (applied (Con (after 3) 1) ((Var 11) ∷ (Var
+    1) ∷ []))))) ∷ (reflexivity 0 (Fin (suc_term (Var 9))) (applied (Con (after 3) 1) ((Var 9) ∷ (Var 8) ∷ []))) ∷ (Var 1) ∷ (Var
+    0) ∷ [])))) ∷ (Var 13) ∷ (Var 1) ∷ (Var 12) ∷ (Var 0) ∷ [])) ∷ (applied (Con (after 6) 1) ((Var 7) ∷ (Var 6) ∷ (Var 5) ∷ []))
     ∷ [])) (Var 11)) (applied (Elim 1 0) (Nat ∷ (Var 8) ∷ (Lam (Nat) (Lam (equation 0 Nat (Var 9) (Var 0)) (Pi (Fin (Var
-    1)) (Pi (applied (Fam 52) ((suc_term (Var 2)) ∷ (applied (Con 49 1) ((Var 2) ∷ (Var 0) ∷ [])) ∷ [])) (Pi (equation 0
+    1)) (Pi (applied (Fam (after 6)) ((suc_term (Var 2)) ∷ (applied (Con (after 3) 1) ((Var 2) ∷ (Var 0) ∷ [])) ∷ [])) (Pi (equation 0
     (Fin (Var 3)) (applied (Elim 1 0) (Nat ∷ (Var 12) ∷ (Lam (Nat) (Lam (equation 0 Nat (Var 13) (Var 0)) (Pi (Fin (Var
     14)) (Fin (Var 2))))) ∷ (Lam (Fin (Var 12)) (Var 0)) ∷ (Var 3) ∷ (Var 2) ∷ (Var 11) ∷ [])) (Var 1)) (Pi (equation 0
-    (applied (Fam 52) ((suc_term (Var 4)) ∷ (applied (Con 49 1) ((Var 4) ∷ (Var 2) ∷ [])) ∷ [])) (applied (Elim 1 0) (Nat
+    (applied (Fam (after 6)) ((suc_term (Var 4)) ∷ (applied (Con (after 3) 1) ((Var 4) ∷ (Var 2) ∷ [])) ∷ [])) (applied (Elim 1 0) (Nat
     ∷ (suc_term (Var 13)) ∷ (Lam (Nat) (Lam (equation 0 Nat (suc_term (Var 14)) (Var 0)) (Pi (Fin (Var 1)) (Pi (equation 0
     (Fin (Var 2)) (applied (Elim 1 0) (Nat ∷ (suc_term (Var 16)) ∷ (Lam (Nat) (Lam (equation 0 Nat (suc_term (Var 17))
     (Var 0)) (Pi (Fin (suc_term (Var 18))) (Fin (Var 2))))) ∷ (Lam (Fin (suc_term (Var 16))) (Var 0)) ∷ (Var 2) ∷ (Var 1)
-    ∷ (applied (Con 49 1) ((Var 16) ∷ (Var 15) ∷ [])) ∷ [])) (Var 0)) (Pi (applied (Fam 52) ((suc_term (Var 17)) ∷
-    (applied (Con 49 1) ((Var 17) ∷ (Var 16) ∷ [])) ∷ [])) (applied (Fam 52) ((Var 4) ∷ (Var 2) ∷ []))))))) ∷ (Lam (Fin
+    ∷ (applied (Con (after 3) 1) ((Var 16) ∷ (Var 15) ∷ [])) ∷ [])) (Var 0)) (Pi (applied (Fam (after 6)) ((suc_term (Var 17)) ∷
+    (applied (Con (after 3) 1) ((Var 17) ∷ (Var 16) ∷ [])) ∷ [])) (applied (Fam (after 6)) ((Var 4) ∷ (Var 2) ∷ []))))))) ∷ (Lam (Fin
     (suc_term (Var 13))) (Lam (equation 0 (Fin (suc_term (Var 14))) (applied (Elim 1 0) (Nat ∷ (suc_term (Var 14)) ∷ (Lam
     (Nat) (Lam (equation 0 Nat (suc_term (Var 15)) (Var 0)) (Pi (Fin (suc_term (Var 16))) (Fin (Var 2))))) ∷ (Lam (Fin
-    (suc_term (Var 14))) (Var 0)) ∷ (suc_term (Var 14)) ∷ (reflexivity 0 Nat (suc_term (Var 14))) ∷ (applied (Con 49 1)
-    ((Var 14) ∷ (Var 13) ∷ [])) ∷ [])) (Var 0)) (applied (Elim 1 0) ((Fin (suc_term (Var 15))) ∷ (applied (Con 49 1) ((Var
-    15) ∷ (Var 14) ∷ [])) ∷ (Lam (Fin (suc_term (Var 15))) (Lam (equation 0 (Fin (suc_term (Var 16))) (applied (Con 49 1)
-    ((Var 16) ∷ (Var 15) ∷ [])) (Var 0)) (Pi (applied (Fam 52) ((suc_term (Var 17)) ∷ (applied (Con 49 1) ((Var 17) ∷ (Var
-    16) ∷ [])) ∷ [])) (applied (Fam 52) ((suc_term (Var 18)) ∷ (Var 2) ∷ []))))) ∷ (Lam (applied (Fam 52) ((suc_term (Var
-    15)) ∷ (applied (Con 49 1) ((Var 15) ∷ (Var 14) ∷ [])) ∷ [])) (Var 0)) ∷ (Var 1) ∷ (Var 0) ∷ [])))) ∷ (suc_term (Var
+    (suc_term (Var 14))) (Var 0)) ∷ (suc_term (Var 14)) ∷ (reflexivity 0 Nat (suc_term (Var 14))) ∷ (applied (Con (after 3) 1)
+    ((Var 14) ∷ (Var 13) ∷ [])) ∷ [])) (Var 0)) (applied (Elim 1 0) ((Fin (suc_term (Var 15))) ∷ (applied (Con (after 3) 1) ((Var
+    15) ∷ (Var 14) ∷ [])) ∷ (Lam (Fin (suc_term (Var 15))) (Lam (equation 0 (Fin (suc_term (Var 16))) (applied (Con (after 3) 1)
+    ((Var 16) ∷ (Var 15) ∷ [])) (Var 0)) (Pi (applied (Fam (after 6)) ((suc_term (Var 17)) ∷ (applied (Con (after 3) 1) ((Var 17) ∷ (Var
+    16) ∷ [])) ∷ [])) (applied (Fam (after 6)) ((suc_term (Var 18)) ∷ (Var 2) ∷ []))))) ∷ (Lam (applied (Fam (after 6)) ((suc_term (Var
+    15)) ∷ (applied (Con (after 3) 1) ((Var 15) ∷ (Var 14) ∷ [])) ∷ [])) (Var 0)) ∷ (Var 1) ∷ (Var 0) ∷ [])))) ∷ (suc_term (Var
     4)) ∷ (applied (Elim 1 0) (Nat ∷ (Var 13) ∷ (Lam (Nat) (Lam (equation 0 Nat (Var 14) (Var 0)) (Pi (Fin (Var 1)) (Pi
     (equation 0 (Fin (Var 2)) (applied (Elim 1 0) (Nat ∷ (Var 16) ∷ (Lam (Nat) (Lam (equation 0 Nat (Var 17) (Var 0)) (Pi
     (Fin (Var 18)) (Fin (Var 2))))) ∷ (Lam (Fin (Var 16)) (Var 0)) ∷ (Var 2) ∷ (Var 1) ∷ (Var 15) ∷ [])) (Var 0))
@@ -192,7 +194,7 @@ row_gd : translate (behind (sample false) (FamilyOf has_family ∷ [])) plan_gd 
     2))))) ∷ (Lam (Fin (Var 14)) (Var 0)) ∷ (Var 14) ∷ (reflexivity 0 Nat (Var 14)) ∷ (Var 13) ∷ [])) (Var 0)) (applied
     (Elim 1 0) ((Fin (Var 15)) ∷ (Var 14) ∷ (Lam (Fin (Var 15)) (Lam (equation 0 (Fin (Var 16)) (Var 15) (Var 0))
     (equation 0 Nat (suc_term (Var 17)) (suc_term (Var 17))))) ∷ (reflexivity 0 Nat (suc_term (Var 15))) ∷ (Var 1) ∷ (Var
-    0) ∷ [])))) ∷ (Var 4) ∷ (Var 3) ∷ (Var 2) ∷ (Var 0) ∷ [])) ∷ (applied (Con 49 1) ((Var 4) ∷ (Var 2) ∷ [])) ∷ (applied
+    0) ∷ [])))) ∷ (Var 4) ∷ (Var 3) ∷ (Var 2) ∷ (Var 0) ∷ [])) ∷ (applied (Con (after 3) 1) ((Var 4) ∷ (Var 2) ∷ [])) ∷ (applied
     (Elim 1 0) (Nat ∷ (Var 13) ∷ (Lam (Nat) (Lam (equation 0 Nat (Var 14) (Var 0)) (Pi (Fin (Var 1)) (Pi (equation 0 (Fin
     (Var 2)) (applied (Elim 1 0) (Nat ∷ (Var 16) ∷ (Lam (Nat) (Lam (equation 0 Nat (Var 17) (Var 0)) (Pi (Fin (Var 18))
     (Fin (Var 2))))) ∷ (Lam (Fin (Var 16)) (Var 0)) ∷ (Var 2) ∷ (Var 1) ∷ (Var 15) ∷ [])) (Var 0)) (equation 0 (Fin
@@ -206,8 +208,8 @@ row_gd : translate (behind (sample false) (FamilyOf has_family ∷ [])) plan_gd 
     2))))) ∷ (Lam (Fin (Var 18)) (Var 0)) ∷ (Var 18) ∷ (reflexivity 0 Nat (Var 18)) ∷ (Var 17) ∷ [])) (Var 0)) (applied
     (Elim 1 0) ((Fin (Var 19)) ∷ (Var 18) ∷ (Lam (Fin (Var 19)) (Lam (equation 0 (Fin (Var 20)) (Var 19) (Var 0))
     (equation 0 Nat (suc_term (Var 21)) (suc_term (Var 21))))) ∷ (reflexivity 0 Nat (suc_term (Var 19))) ∷ (Var 1) ∷ (Var
-    0) ∷ [])))) ∷ (Var 3) ∷ (Var 2) ∷ (Var 1) ∷ (Var 0) ∷ [])) ∷ (applied (Con 49 1) ((Var 17) ∷ (Var 16) ∷ [])) ∷ []))
-    (applied (Con 49 1) ((Var 3) ∷ (Var 1) ∷ []))))))) ∷ (Lam (Fin (Var 13)) (Lam (equation 0 (Fin (Var 14)) (applied
+    0) ∷ [])))) ∷ (Var 3) ∷ (Var 2) ∷ (Var 1) ∷ (Var 0) ∷ [])) ∷ (applied (Con (after 3) 1) ((Var 17) ∷ (Var 16) ∷ [])) ∷ []))
+    (applied (Con (after 3) 1) ((Var 3) ∷ (Var 1) ∷ []))))))) ∷ (Lam (Fin (Var 13)) (Lam (equation 0 (Fin (Var 14)) (applied
     (Elim 1 0) (Nat ∷ (Var 14) ∷ (Lam (Nat) (Lam (equation 0 Nat (Var 15) (Var 0)) (Pi (Fin (Var 16)) (Fin (Var 2))))) ∷
     (Lam (Fin (Var 14)) (Var 0)) ∷ (Var 14) ∷ (reflexivity 0 Nat (Var 14)) ∷ (Var 13) ∷ [])) (Var 0)) (applied (Elim 1 0)
     ((Fin (Var 15)) ∷ (Var 14) ∷ (Lam (Fin (Var 15)) (Lam (equation 0 (Fin (Var 16)) (Var 15) (Var 0)) (equation 0 (Fin
@@ -221,27 +223,27 @@ row_gd : translate (behind (sample false) (FamilyOf has_family ∷ [])) plan_gd 
     2))))) ∷ (Lam (Fin (Var 18)) (Var 0)) ∷ (Var 18) ∷ (reflexivity 0 Nat (Var 18)) ∷ (Var 17) ∷ [])) (Var 0)) (applied
     (Elim 1 0) ((Fin (Var 19)) ∷ (Var 18) ∷ (Lam (Fin (Var 19)) (Lam (equation 0 (Fin (Var 20)) (Var 19) (Var 0))
     (equation 0 Nat (suc_term (Var 21)) (suc_term (Var 21))))) ∷ (reflexivity 0 Nat (suc_term (Var 19))) ∷ (Var 1) ∷ (Var
-    0) ∷ [])))) ∷ (Var 17) ∷ (reflexivity 0 Nat (Var 17)) ∷ (Var 1) ∷ (Var 0) ∷ [])) ∷ (applied (Con 49 1) ((Var 17) ∷
-    (Var 16) ∷ [])) ∷ [])) (applied (Con 49 1) ((Var 17) ∷ (Var 1) ∷ []))))) ∷ (reflexivity 0 (Fin (suc_term (Var 15)))
-    (applied (Con 49 1) ((Var 15) ∷ (Var 14) ∷ []))) ∷ (Var 1) ∷ (Var 0) ∷ [])))) ∷ (Var 4) ∷ (Var 3) ∷ (Var 2) ∷ (Var 0)
-    ∷ [])) ∷ (applied (Con 52 1) ((Var 13) ∷ (Var 12) ∷ (Var 11) ∷ [])) ∷ [])) (Var 1)) (Nat))))))) ∷ (Lam (Fin (Var 8))
-    (Lam (applied (Fam 52) ((suc_term (Var 9)) ∷ (applied (Con 49 1) ((Var 9) ∷ (Var 0) ∷ [])) ∷ [])) (Lam (equation 0
+    0) ∷ [])))) ∷ (Var 17) ∷ (reflexivity 0 Nat (Var 17)) ∷ (Var 1) ∷ (Var 0) ∷ [])) ∷ (applied (Con (after 3) 1) ((Var 17) ∷
+    (Var 16) ∷ [])) ∷ [])) (applied (Con (after 3) 1) ((Var 17) ∷ (Var 1) ∷ []))))) ∷ (reflexivity 0 (Fin (suc_term (Var 15)))
+    (applied (Con (after 3) 1) ((Var 15) ∷ (Var 14) ∷ []))) ∷ (Var 1) ∷ (Var 0) ∷ [])))) ∷ (Var 4) ∷ (Var 3) ∷ (Var 2) ∷ (Var 0)
+    ∷ [])) ∷ (applied (Con (after 6) 1) ((Var 13) ∷ (Var 12) ∷ (Var 11) ∷ [])) ∷ [])) (Var 1)) (Nat))))))) ∷ (Lam (Fin (Var 8))
+    (Lam (applied (Fam (after 6)) ((suc_term (Var 9)) ∷ (applied (Con (after 3) 1) ((Var 9) ∷ (Var 0) ∷ [])) ∷ [])) (Lam (equation 0
     (Fin (Var 10)) (applied (Elim 1 0) (Nat ∷ (Var 10) ∷ (Lam (Nat) (Lam (equation 0 Nat (Var 11) (Var 0)) (Pi (Fin (Var
     12)) (Fin (Var 2))))) ∷ (Lam (Fin (Var 10)) (Var 0)) ∷ (Var 10) ∷ (reflexivity 0 Nat (Var 10)) ∷ (Var 9) ∷ [])) (Var
-    1)) (Lam (equation 0 (applied (Fam 52) ((suc_term (Var 11)) ∷ (applied (Con 49 1) ((Var 11) ∷ (Var 2) ∷ [])) ∷ []))
+    1)) (Lam (equation 0 (applied (Fam (after 6)) ((suc_term (Var 11)) ∷ (applied (Con (after 3) 1) ((Var 11) ∷ (Var 2) ∷ [])) ∷ []))
     (applied (Elim 1 0) (Nat ∷ (suc_term (Var 11)) ∷ (Lam (Nat) (Lam (equation 0 Nat (suc_term (Var 12)) (Var 0)) (Pi (Fin
     (Var 1)) (Pi (equation 0 (Fin (Var 2)) (applied (Elim 1 0) (Nat ∷ (suc_term (Var 14)) ∷ (Lam (Nat) (Lam (equation 0
     Nat (suc_term (Var 15)) (Var 0)) (Pi (Fin (suc_term (Var 16))) (Fin (Var 2))))) ∷ (Lam (Fin (suc_term (Var 14))) (Var
-    0)) ∷ (Var 2) ∷ (Var 1) ∷ (applied (Con 49 1) ((Var 14) ∷ (Var 13) ∷ [])) ∷ [])) (Var 0)) (Pi (applied (Fam 52)
-    ((suc_term (Var 15)) ∷ (applied (Con 49 1) ((Var 15) ∷ (Var 14) ∷ [])) ∷ [])) (applied (Fam 52) ((Var 4) ∷ (Var 2) ∷
+    0)) ∷ (Var 2) ∷ (Var 1) ∷ (applied (Con (after 3) 1) ((Var 14) ∷ (Var 13) ∷ [])) ∷ [])) (Var 0)) (Pi (applied (Fam (after 6))
+    ((suc_term (Var 15)) ∷ (applied (Con (after 3) 1) ((Var 15) ∷ (Var 14) ∷ [])) ∷ [])) (applied (Fam (after 6)) ((Var 4) ∷ (Var 2) ∷
     []))))))) ∷ (Lam (Fin (suc_term (Var 11))) (Lam (equation 0 (Fin (suc_term (Var 12))) (applied (Elim 1 0) (Nat ∷
     (suc_term (Var 12)) ∷ (Lam (Nat) (Lam (equation 0 Nat (suc_term (Var 13)) (Var 0)) (Pi (Fin (suc_term (Var 14))) (Fin
     (Var 2))))) ∷ (Lam (Fin (suc_term (Var 12))) (Var 0)) ∷ (suc_term (Var 12)) ∷ (reflexivity 0 Nat (suc_term (Var 12)))
-    ∷ (applied (Con 49 1) ((Var 12) ∷ (Var 11) ∷ [])) ∷ [])) (Var 0)) (applied (Elim 1 0) ((Fin (suc_term (Var 13))) ∷
-    (applied (Con 49 1) ((Var 13) ∷ (Var 12) ∷ [])) ∷ (Lam (Fin (suc_term (Var 13))) (Lam (equation 0 (Fin (suc_term (Var
-    14))) (applied (Con 49 1) ((Var 14) ∷ (Var 13) ∷ [])) (Var 0)) (Pi (applied (Fam 52) ((suc_term (Var 15)) ∷ (applied
-    (Con 49 1) ((Var 15) ∷ (Var 14) ∷ [])) ∷ [])) (applied (Fam 52) ((suc_term (Var 16)) ∷ (Var 2) ∷ []))))) ∷ (Lam
-    (applied (Fam 52) ((suc_term (Var 13)) ∷ (applied (Con 49 1) ((Var 13) ∷ (Var 12) ∷ [])) ∷ [])) (Var 0)) ∷ (Var 1) ∷
+    ∷ (applied (Con (after 3) 1) ((Var 12) ∷ (Var 11) ∷ [])) ∷ [])) (Var 0)) (applied (Elim 1 0) ((Fin (suc_term (Var 13))) ∷
+    (applied (Con (after 3) 1) ((Var 13) ∷ (Var 12) ∷ [])) ∷ (Lam (Fin (suc_term (Var 13))) (Lam (equation 0 (Fin (suc_term (Var
+    14))) (applied (Con (after 3) 1) ((Var 14) ∷ (Var 13) ∷ [])) (Var 0)) (Pi (applied (Fam (after 6)) ((suc_term (Var 15)) ∷ (applied
+    (Con (after 3) 1) ((Var 15) ∷ (Var 14) ∷ [])) ∷ [])) (applied (Fam (after 6)) ((suc_term (Var 16)) ∷ (Var 2) ∷ []))))) ∷ (Lam
+    (applied (Fam (after 6)) ((suc_term (Var 13)) ∷ (applied (Con (after 3) 1) ((Var 13) ∷ (Var 12) ∷ [])) ∷ [])) (Var 0)) ∷ (Var 1) ∷
     (Var 0) ∷ [])))) ∷ (suc_term (Var 11)) ∷ (applied (Elim 1 0) (Nat ∷ (Var 11) ∷ (Lam (Nat) (Lam (equation 0 Nat (Var
     12) (Var 0)) (Pi (Fin (Var 1)) (Pi (equation 0 (Fin (Var 2)) (applied (Elim 1 0) (Nat ∷ (Var 14) ∷ (Lam (Nat) (Lam
     (equation 0 Nat (Var 15) (Var 0)) (Pi (Fin (Var 16)) (Fin (Var 2))))) ∷ (Lam (Fin (Var 14)) (Var 0)) ∷ (Var 2) ∷ (Var
@@ -250,7 +252,7 @@ row_gd : translate (behind (sample false) (FamilyOf has_family ∷ [])) plan_gd 
     (Fin (Var 14)) (Fin (Var 2))))) ∷ (Lam (Fin (Var 12)) (Var 0)) ∷ (Var 12) ∷ (reflexivity 0 Nat (Var 12)) ∷ (Var 11) ∷
     [])) (Var 0)) (applied (Elim 1 0) ((Fin (Var 13)) ∷ (Var 12) ∷ (Lam (Fin (Var 13)) (Lam (equation 0 (Fin (Var 14))
     (Var 13) (Var 0)) (equation 0 Nat (suc_term (Var 15)) (suc_term (Var 15))))) ∷ (reflexivity 0 Nat (suc_term (Var 13)))
-    ∷ (Var 1) ∷ (Var 0) ∷ [])))) ∷ (Var 11) ∷ (reflexivity 0 Nat (Var 11)) ∷ (Var 2) ∷ (Var 0) ∷ [])) ∷ (applied (Con 49
+    ∷ (Var 1) ∷ (Var 0) ∷ [])))) ∷ (Var 11) ∷ (reflexivity 0 Nat (Var 11)) ∷ (Var 2) ∷ (Var 0) ∷ [])) ∷ (applied (Con (after 3)
     1) ((Var 11) ∷ (Var 2) ∷ [])) ∷ (applied (Elim 1 0) (Nat ∷ (Var 11) ∷ (Lam (Nat) (Lam (equation 0 Nat (Var 12) (Var
     0)) (Pi (Fin (Var 1)) (Pi (equation 0 (Fin (Var 2)) (applied (Elim 1 0) (Nat ∷ (Var 14) ∷ (Lam (Nat) (Lam (equation 0
     Nat (Var 15) (Var 0)) (Pi (Fin (Var 16)) (Fin (Var 2))))) ∷ (Lam (Fin (Var 14)) (Var 0)) ∷ (Var 2) ∷ (Var 1) ∷ (Var
@@ -264,8 +266,8 @@ row_gd : translate (behind (sample false) (FamilyOf has_family ∷ [])) plan_gd 
     (Fin (Var 18)) (Fin (Var 2))))) ∷ (Lam (Fin (Var 16)) (Var 0)) ∷ (Var 16) ∷ (reflexivity 0 Nat (Var 16)) ∷ (Var 15) ∷
     [])) (Var 0)) (applied (Elim 1 0) ((Fin (Var 17)) ∷ (Var 16) ∷ (Lam (Fin (Var 17)) (Lam (equation 0 (Fin (Var 18))
     (Var 17) (Var 0)) (equation 0 Nat (suc_term (Var 19)) (suc_term (Var 19))))) ∷ (reflexivity 0 Nat (suc_term (Var 17)))
-    ∷ (Var 1) ∷ (Var 0) ∷ [])))) ∷ (Var 3) ∷ (Var 2) ∷ (Var 1) ∷ (Var 0) ∷ [])) ∷ (applied (Con 49 1) ((Var 15) ∷ (Var 14)
-    ∷ [])) ∷ [])) (applied (Con 49 1) ((Var 3) ∷ (Var 1) ∷ []))))))) ∷ (Lam (Fin (Var 11)) (Lam (equation 0 (Fin (Var 12))
+    ∷ (Var 1) ∷ (Var 0) ∷ [])))) ∷ (Var 3) ∷ (Var 2) ∷ (Var 1) ∷ (Var 0) ∷ [])) ∷ (applied (Con (after 3) 1) ((Var 15) ∷ (Var 14)
+    ∷ [])) ∷ [])) (applied (Con (after 3) 1) ((Var 3) ∷ (Var 1) ∷ []))))))) ∷ (Lam (Fin (Var 11)) (Lam (equation 0 (Fin (Var 12))
     (applied (Elim 1 0) (Nat ∷ (Var 12) ∷ (Lam (Nat) (Lam (equation 0 Nat (Var 13) (Var 0)) (Pi (Fin (Var 14)) (Fin (Var
     2))))) ∷ (Lam (Fin (Var 12)) (Var 0)) ∷ (Var 12) ∷ (reflexivity 0 Nat (Var 12)) ∷ (Var 11) ∷ [])) (Var 0)) (applied
     (Elim 1 0) ((Fin (Var 13)) ∷ (Var 12) ∷ (Lam (Fin (Var 13)) (Lam (equation 0 (Fin (Var 14)) (Var 13) (Var 0))
@@ -279,26 +281,26 @@ row_gd : translate (behind (sample false) (FamilyOf has_family ∷ [])) plan_gd 
     (Var 2))))) ∷ (Lam (Fin (Var 16)) (Var 0)) ∷ (Var 16) ∷ (reflexivity 0 Nat (Var 16)) ∷ (Var 15) ∷ [])) (Var 0))
     (applied (Elim 1 0) ((Fin (Var 17)) ∷ (Var 16) ∷ (Lam (Fin (Var 17)) (Lam (equation 0 (Fin (Var 18)) (Var 17) (Var 0))
     (equation 0 Nat (suc_term (Var 19)) (suc_term (Var 19))))) ∷ (reflexivity 0 Nat (suc_term (Var 17))) ∷ (Var 1) ∷ (Var
-    0) ∷ [])))) ∷ (Var 15) ∷ (reflexivity 0 Nat (Var 15)) ∷ (Var 1) ∷ (Var 0) ∷ [])) ∷ (applied (Con 49 1) ((Var 15) ∷
-    (Var 14) ∷ [])) ∷ [])) (applied (Con 49 1) ((Var 15) ∷ (Var 1) ∷ []))))) ∷ (reflexivity 0 (Fin (suc_term (Var 13)))
-    (applied (Con 49 1) ((Var 13) ∷ (Var 12) ∷ []))) ∷ (Var 1) ∷ (Var 0) ∷ [])))) ∷ (Var 11) ∷ (reflexivity 0 Nat (Var
-    11)) ∷ (Var 2) ∷ (Var 0) ∷ [])) ∷ (applied (Con 52 1) ((Var 11) ∷ (Var 10) ∷ (Var 9) ∷ [])) ∷ [])) (Var 1)) (applied
+    0) ∷ [])))) ∷ (Var 15) ∷ (reflexivity 0 Nat (Var 15)) ∷ (Var 1) ∷ (Var 0) ∷ [])) ∷ (applied (Con (after 3) 1) ((Var 15) ∷
+    (Var 14) ∷ [])) ∷ [])) (applied (Con (after 3) 1) ((Var 15) ∷ (Var 1) ∷ []))))) ∷ (reflexivity 0 (Fin (suc_term (Var 13)))
+    (applied (Con (after 3) 1) ((Var 13) ∷ (Var 12) ∷ []))) ∷ (Var 1) ∷ (Var 0) ∷ [])))) ∷ (Var 11) ∷ (reflexivity 0 Nat (Var
+    11)) ∷ (Var 2) ∷ (Var 0) ∷ [])) ∷ (applied (Con (after 6) 1) ((Var 11) ∷ (Var 10) ∷ (Var 9) ∷ [])) ∷ [])) (Var 1)) (applied
     (Elim 1 0) ((Fin (Var 12)) ∷ (Var 11) ∷ (Lam (Fin (Var 12)) (Lam (equation 0 (Fin (Var 13)) (Var 12) (Var 0)) (Pi
-    (applied (Fam 52) ((suc_term (Var 14)) ∷ (applied (Con 49 1) ((Var 14) ∷ (Var 1) ∷ [])) ∷ [])) (Pi (equation 0
-    (applied (Fam 52) ((suc_term (Var 15)) ∷ (applied (Con 49 1) ((Var 15) ∷ (Var 2) ∷ [])) ∷ [])) (applied (Elim 1 0)
+    (applied (Fam (after 6)) ((suc_term (Var 14)) ∷ (applied (Con (after 3) 1) ((Var 14) ∷ (Var 1) ∷ [])) ∷ [])) (Pi (equation 0
+    (applied (Fam (after 6)) ((suc_term (Var 15)) ∷ (applied (Con (after 3) 1) ((Var 15) ∷ (Var 2) ∷ [])) ∷ [])) (applied (Elim 1 0)
     (Nat ∷ (suc_term (Var 15)) ∷ (Lam (Nat) (Lam (equation 0 Nat (suc_term (Var 16)) (Var 0)) (Pi (Fin (Var 1)) (Pi
     (equation 0 (Fin (Var 2)) (applied (Elim 1 0) (Nat ∷ (suc_term (Var 18)) ∷ (Lam (Nat) (Lam (equation 0 Nat (suc_term
     (Var 19)) (Var 0)) (Pi (Fin (suc_term (Var 20))) (Fin (Var 2))))) ∷ (Lam (Fin (suc_term (Var 18))) (Var 0)) ∷ (Var 2)
-    ∷ (Var 1) ∷ (applied (Con 49 1) ((Var 18) ∷ (Var 17) ∷ [])) ∷ [])) (Var 0)) (Pi (applied (Fam 52) ((suc_term (Var 19))
-    ∷ (applied (Con 49 1) ((Var 19) ∷ (Var 18) ∷ [])) ∷ [])) (applied (Fam 52) ((Var 4) ∷ (Var 2) ∷ []))))))) ∷ (Lam (Fin
+    ∷ (Var 1) ∷ (applied (Con (after 3) 1) ((Var 18) ∷ (Var 17) ∷ [])) ∷ [])) (Var 0)) (Pi (applied (Fam (after 6)) ((suc_term (Var 19))
+    ∷ (applied (Con (after 3) 1) ((Var 19) ∷ (Var 18) ∷ [])) ∷ [])) (applied (Fam (after 6)) ((Var 4) ∷ (Var 2) ∷ []))))))) ∷ (Lam (Fin
     (suc_term (Var 15))) (Lam (equation 0 (Fin (suc_term (Var 16))) (applied (Elim 1 0) (Nat ∷ (suc_term (Var 16)) ∷ (Lam
     (Nat) (Lam (equation 0 Nat (suc_term (Var 17)) (Var 0)) (Pi (Fin (suc_term (Var 18))) (Fin (Var 2))))) ∷ (Lam (Fin
-    (suc_term (Var 16))) (Var 0)) ∷ (suc_term (Var 16)) ∷ (reflexivity 0 Nat (suc_term (Var 16))) ∷ (applied (Con 49 1)
-    ((Var 16) ∷ (Var 15) ∷ [])) ∷ [])) (Var 0)) (applied (Elim 1 0) ((Fin (suc_term (Var 17))) ∷ (applied (Con 49 1) ((Var
-    17) ∷ (Var 16) ∷ [])) ∷ (Lam (Fin (suc_term (Var 17))) (Lam (equation 0 (Fin (suc_term (Var 18))) (applied (Con 49 1)
-    ((Var 18) ∷ (Var 17) ∷ [])) (Var 0)) (Pi (applied (Fam 52) ((suc_term (Var 19)) ∷ (applied (Con 49 1) ((Var 19) ∷ (Var
-    18) ∷ [])) ∷ [])) (applied (Fam 52) ((suc_term (Var 20)) ∷ (Var 2) ∷ []))))) ∷ (Lam (applied (Fam 52) ((suc_term (Var
-    17)) ∷ (applied (Con 49 1) ((Var 17) ∷ (Var 16) ∷ [])) ∷ [])) (Var 0)) ∷ (Var 1) ∷ (Var 0) ∷ [])))) ∷ (suc_term (Var
+    (suc_term (Var 16))) (Var 0)) ∷ (suc_term (Var 16)) ∷ (reflexivity 0 Nat (suc_term (Var 16))) ∷ (applied (Con (after 3) 1)
+    ((Var 16) ∷ (Var 15) ∷ [])) ∷ [])) (Var 0)) (applied (Elim 1 0) ((Fin (suc_term (Var 17))) ∷ (applied (Con (after 3) 1) ((Var
+    17) ∷ (Var 16) ∷ [])) ∷ (Lam (Fin (suc_term (Var 17))) (Lam (equation 0 (Fin (suc_term (Var 18))) (applied (Con (after 3) 1)
+    ((Var 18) ∷ (Var 17) ∷ [])) (Var 0)) (Pi (applied (Fam (after 6)) ((suc_term (Var 19)) ∷ (applied (Con (after 3) 1) ((Var 19) ∷ (Var
+    18) ∷ [])) ∷ [])) (applied (Fam (after 6)) ((suc_term (Var 20)) ∷ (Var 2) ∷ []))))) ∷ (Lam (applied (Fam (after 6)) ((suc_term (Var
+    17)) ∷ (applied (Con (after 3) 1) ((Var 17) ∷ (Var 16) ∷ [])) ∷ [])) (Var 0)) ∷ (Var 1) ∷ (Var 0) ∷ [])))) ∷ (suc_term (Var
     15)) ∷ (applied (Elim 1 0) (Nat ∷ (Var 15) ∷ (Lam (Nat) (Lam (equation 0 Nat (Var 16) (Var 0)) (Pi (Fin (Var 1)) (Pi
     (equation 0 (Fin (Var 2)) (applied (Elim 1 0) (Nat ∷ (Var 18) ∷ (Lam (Nat) (Lam (equation 0 Nat (Var 19) (Var 0)) (Pi
     (Fin (Var 20)) (Fin (Var 2))))) ∷ (Lam (Fin (Var 18)) (Var 0)) ∷ (Var 2) ∷ (Var 1) ∷ (Var 17) ∷ [])) (Var 0))
@@ -307,7 +309,7 @@ row_gd : translate (behind (sample false) (FamilyOf has_family ∷ [])) plan_gd 
     2))))) ∷ (Lam (Fin (Var 16)) (Var 0)) ∷ (Var 16) ∷ (reflexivity 0 Nat (Var 16)) ∷ (Var 15) ∷ [])) (Var 0)) (applied
     (Elim 1 0) ((Fin (Var 17)) ∷ (Var 16) ∷ (Lam (Fin (Var 17)) (Lam (equation 0 (Fin (Var 18)) (Var 17) (Var 0))
     (equation 0 Nat (suc_term (Var 19)) (suc_term (Var 19))))) ∷ (reflexivity 0 Nat (suc_term (Var 17))) ∷ (Var 1) ∷ (Var
-    0) ∷ [])))) ∷ (Var 15) ∷ (reflexivity 0 Nat (Var 15)) ∷ (Var 2) ∷ (Var 1) ∷ [])) ∷ (applied (Con 49 1) ((Var 15) ∷
+    0) ∷ [])))) ∷ (Var 15) ∷ (reflexivity 0 Nat (Var 15)) ∷ (Var 2) ∷ (Var 1) ∷ [])) ∷ (applied (Con (after 3) 1) ((Var 15) ∷
     (Var 2) ∷ [])) ∷ (applied (Elim 1 0) (Nat ∷ (Var 15) ∷ (Lam (Nat) (Lam (equation 0 Nat (Var 16) (Var 0)) (Pi (Fin (Var
     1)) (Pi (equation 0 (Fin (Var 2)) (applied (Elim 1 0) (Nat ∷ (Var 18) ∷ (Lam (Nat) (Lam (equation 0 Nat (Var 19) (Var
     0)) (Pi (Fin (Var 20)) (Fin (Var 2))))) ∷ (Lam (Fin (Var 18)) (Var 0)) ∷ (Var 2) ∷ (Var 1) ∷ (Var 17) ∷ [])) (Var 0))
@@ -321,8 +323,8 @@ row_gd : translate (behind (sample false) (FamilyOf has_family ∷ [])) plan_gd 
     (Var 2))))) ∷ (Lam (Fin (Var 20)) (Var 0)) ∷ (Var 20) ∷ (reflexivity 0 Nat (Var 20)) ∷ (Var 19) ∷ [])) (Var 0))
     (applied (Elim 1 0) ((Fin (Var 21)) ∷ (Var 20) ∷ (Lam (Fin (Var 21)) (Lam (equation 0 (Fin (Var 22)) (Var 21) (Var 0))
     (equation 0 Nat (suc_term (Var 23)) (suc_term (Var 23))))) ∷ (reflexivity 0 Nat (suc_term (Var 21))) ∷ (Var 1) ∷ (Var
-    0) ∷ [])))) ∷ (Var 3) ∷ (Var 2) ∷ (Var 1) ∷ (Var 0) ∷ [])) ∷ (applied (Con 49 1) ((Var 19) ∷ (Var 18) ∷ [])) ∷ []))
-    (applied (Con 49 1) ((Var 3) ∷ (Var 1) ∷ []))))))) ∷ (Lam (Fin (Var 15)) (Lam (equation 0 (Fin (Var 16)) (applied
+    0) ∷ [])))) ∷ (Var 3) ∷ (Var 2) ∷ (Var 1) ∷ (Var 0) ∷ [])) ∷ (applied (Con (after 3) 1) ((Var 19) ∷ (Var 18) ∷ [])) ∷ []))
+    (applied (Con (after 3) 1) ((Var 3) ∷ (Var 1) ∷ []))))))) ∷ (Lam (Fin (Var 15)) (Lam (equation 0 (Fin (Var 16)) (applied
     (Elim 1 0) (Nat ∷ (Var 16) ∷ (Lam (Nat) (Lam (equation 0 Nat (Var 17) (Var 0)) (Pi (Fin (Var 18)) (Fin (Var 2))))) ∷
     (Lam (Fin (Var 16)) (Var 0)) ∷ (Var 16) ∷ (reflexivity 0 Nat (Var 16)) ∷ (Var 15) ∷ [])) (Var 0)) (applied (Elim 1 0)
     ((Fin (Var 17)) ∷ (Var 16) ∷ (Lam (Fin (Var 17)) (Lam (equation 0 (Fin (Var 18)) (Var 17) (Var 0)) (equation 0 (Fin
@@ -336,25 +338,25 @@ row_gd : translate (behind (sample false) (FamilyOf has_family ∷ [])) plan_gd 
     2))))) ∷ (Lam (Fin (Var 20)) (Var 0)) ∷ (Var 20) ∷ (reflexivity 0 Nat (Var 20)) ∷ (Var 19) ∷ [])) (Var 0)) (applied
     (Elim 1 0) ((Fin (Var 21)) ∷ (Var 20) ∷ (Lam (Fin (Var 21)) (Lam (equation 0 (Fin (Var 22)) (Var 21) (Var 0))
     (equation 0 Nat (suc_term (Var 23)) (suc_term (Var 23))))) ∷ (reflexivity 0 Nat (suc_term (Var 21))) ∷ (Var 1) ∷ (Var
-    0) ∷ [])))) ∷ (Var 19) ∷ (reflexivity 0 Nat (Var 19)) ∷ (Var 1) ∷ (Var 0) ∷ [])) ∷ (applied (Con 49 1) ((Var 19) ∷
-    (Var 18) ∷ [])) ∷ [])) (applied (Con 49 1) ((Var 19) ∷ (Var 1) ∷ []))))) ∷ (reflexivity 0 (Fin (suc_term (Var 17)))
-    (applied (Con 49 1) ((Var 17) ∷ (Var 16) ∷ []))) ∷ (Var 1) ∷ (Var 0) ∷ [])))) ∷ (Var 15) ∷ (reflexivity 0 Nat (Var
-    15)) ∷ (Var 2) ∷ (Var 1) ∷ [])) ∷ (applied (Con 52 1) ((Var 15) ∷ (Var 14) ∷ (Var 13) ∷ [])) ∷ [])) (Var 0)) (Nat)))))
-    ∷ (Lam (applied (Fam 52) ((suc_term (Var 12)) ∷ (applied (Con 49 1) ((Var 12) ∷ (Var 11) ∷ [])) ∷ [])) (Lam (equation
-    0 (applied (Fam 52) ((suc_term (Var 13)) ∷ (applied (Con 49 1) ((Var 13) ∷ (Var 12) ∷ [])) ∷ [])) (applied (Elim 1 0)
+    0) ∷ [])))) ∷ (Var 19) ∷ (reflexivity 0 Nat (Var 19)) ∷ (Var 1) ∷ (Var 0) ∷ [])) ∷ (applied (Con (after 3) 1) ((Var 19) ∷
+    (Var 18) ∷ [])) ∷ [])) (applied (Con (after 3) 1) ((Var 19) ∷ (Var 1) ∷ []))))) ∷ (reflexivity 0 (Fin (suc_term (Var 17)))
+    (applied (Con (after 3) 1) ((Var 17) ∷ (Var 16) ∷ []))) ∷ (Var 1) ∷ (Var 0) ∷ [])))) ∷ (Var 15) ∷ (reflexivity 0 Nat (Var
+    15)) ∷ (Var 2) ∷ (Var 1) ∷ [])) ∷ (applied (Con (after 6) 1) ((Var 15) ∷ (Var 14) ∷ (Var 13) ∷ [])) ∷ [])) (Var 0)) (Nat)))))
+    ∷ (Lam (applied (Fam (after 6)) ((suc_term (Var 12)) ∷ (applied (Con (after 3) 1) ((Var 12) ∷ (Var 11) ∷ [])) ∷ [])) (Lam (equation
+    0 (applied (Fam (after 6)) ((suc_term (Var 13)) ∷ (applied (Con (after 3) 1) ((Var 13) ∷ (Var 12) ∷ [])) ∷ [])) (applied (Elim 1 0)
     (Nat ∷ (suc_term (Var 13)) ∷ (Lam (Nat) (Lam (equation 0 Nat (suc_term (Var 14)) (Var 0)) (Pi (Fin (Var 1)) (Pi
     (equation 0 (Fin (Var 2)) (applied (Elim 1 0) (Nat ∷ (suc_term (Var 16)) ∷ (Lam (Nat) (Lam (equation 0 Nat (suc_term
     (Var 17)) (Var 0)) (Pi (Fin (suc_term (Var 18))) (Fin (Var 2))))) ∷ (Lam (Fin (suc_term (Var 16))) (Var 0)) ∷ (Var 2)
-    ∷ (Var 1) ∷ (applied (Con 49 1) ((Var 16) ∷ (Var 15) ∷ [])) ∷ [])) (Var 0)) (Pi (applied (Fam 52) ((suc_term (Var 17))
-    ∷ (applied (Con 49 1) ((Var 17) ∷ (Var 16) ∷ [])) ∷ [])) (applied (Fam 52) ((Var 4) ∷ (Var 2) ∷ []))))))) ∷ (Lam (Fin
+    ∷ (Var 1) ∷ (applied (Con (after 3) 1) ((Var 16) ∷ (Var 15) ∷ [])) ∷ [])) (Var 0)) (Pi (applied (Fam (after 6)) ((suc_term (Var 17))
+    ∷ (applied (Con (after 3) 1) ((Var 17) ∷ (Var 16) ∷ [])) ∷ [])) (applied (Fam (after 6)) ((Var 4) ∷ (Var 2) ∷ []))))))) ∷ (Lam (Fin
     (suc_term (Var 13))) (Lam (equation 0 (Fin (suc_term (Var 14))) (applied (Elim 1 0) (Nat ∷ (suc_term (Var 14)) ∷ (Lam
     (Nat) (Lam (equation 0 Nat (suc_term (Var 15)) (Var 0)) (Pi (Fin (suc_term (Var 16))) (Fin (Var 2))))) ∷ (Lam (Fin
-    (suc_term (Var 14))) (Var 0)) ∷ (suc_term (Var 14)) ∷ (reflexivity 0 Nat (suc_term (Var 14))) ∷ (applied (Con 49 1)
-    ((Var 14) ∷ (Var 13) ∷ [])) ∷ [])) (Var 0)) (applied (Elim 1 0) ((Fin (suc_term (Var 15))) ∷ (applied (Con 49 1) ((Var
-    15) ∷ (Var 14) ∷ [])) ∷ (Lam (Fin (suc_term (Var 15))) (Lam (equation 0 (Fin (suc_term (Var 16))) (applied (Con 49 1)
-    ((Var 16) ∷ (Var 15) ∷ [])) (Var 0)) (Pi (applied (Fam 52) ((suc_term (Var 17)) ∷ (applied (Con 49 1) ((Var 17) ∷ (Var
-    16) ∷ [])) ∷ [])) (applied (Fam 52) ((suc_term (Var 18)) ∷ (Var 2) ∷ []))))) ∷ (Lam (applied (Fam 52) ((suc_term (Var
-    15)) ∷ (applied (Con 49 1) ((Var 15) ∷ (Var 14) ∷ [])) ∷ [])) (Var 0)) ∷ (Var 1) ∷ (Var 0) ∷ [])))) ∷ (suc_term (Var
+    (suc_term (Var 14))) (Var 0)) ∷ (suc_term (Var 14)) ∷ (reflexivity 0 Nat (suc_term (Var 14))) ∷ (applied (Con (after 3) 1)
+    ((Var 14) ∷ (Var 13) ∷ [])) ∷ [])) (Var 0)) (applied (Elim 1 0) ((Fin (suc_term (Var 15))) ∷ (applied (Con (after 3) 1) ((Var
+    15) ∷ (Var 14) ∷ [])) ∷ (Lam (Fin (suc_term (Var 15))) (Lam (equation 0 (Fin (suc_term (Var 16))) (applied (Con (after 3) 1)
+    ((Var 16) ∷ (Var 15) ∷ [])) (Var 0)) (Pi (applied (Fam (after 6)) ((suc_term (Var 17)) ∷ (applied (Con (after 3) 1) ((Var 17) ∷ (Var
+    16) ∷ [])) ∷ [])) (applied (Fam (after 6)) ((suc_term (Var 18)) ∷ (Var 2) ∷ []))))) ∷ (Lam (applied (Fam (after 6)) ((suc_term (Var
+    15)) ∷ (applied (Con (after 3) 1) ((Var 15) ∷ (Var 14) ∷ [])) ∷ [])) (Var 0)) ∷ (Var 1) ∷ (Var 0) ∷ [])))) ∷ (suc_term (Var
     13)) ∷ (applied (Elim 1 0) (Nat ∷ (Var 13) ∷ (Lam (Nat) (Lam (equation 0 Nat (Var 14) (Var 0)) (Pi (Fin (Var 1)) (Pi
     (equation 0 (Fin (Var 2)) (applied (Elim 1 0) (Nat ∷ (Var 16) ∷ (Lam (Nat) (Lam (equation 0 Nat (Var 17) (Var 0)) (Pi
     (Fin (Var 18)) (Fin (Var 2))))) ∷ (Lam (Fin (Var 16)) (Var 0)) ∷ (Var 2) ∷ (Var 1) ∷ (Var 15) ∷ [])) (Var 0))
@@ -364,7 +366,7 @@ row_gd : translate (behind (sample false) (FamilyOf has_family ∷ [])) plan_gd 
     (Elim 1 0) ((Fin (Var 15)) ∷ (Var 14) ∷ (Lam (Fin (Var 15)) (Lam (equation 0 (Fin (Var 16)) (Var 15) (Var 0))
     (equation 0 Nat (suc_term (Var 17)) (suc_term (Var 17))))) ∷ (reflexivity 0 Nat (suc_term (Var 15))) ∷ (Var 1) ∷ (Var
     0) ∷ [])))) ∷ (Var 13) ∷ (reflexivity 0 Nat (Var 13)) ∷ (Var 12) ∷ (reflexivity 0 (Fin (Var 13)) (Var 12)) ∷ [])) ∷
-    (applied (Con 49 1) ((Var 13) ∷ (Var 12) ∷ [])) ∷ (applied (Elim 1 0) (Nat ∷ (Var 13) ∷ (Lam (Nat) (Lam (equation 0
+    (applied (Con (after 3) 1) ((Var 13) ∷ (Var 12) ∷ [])) ∷ (applied (Elim 1 0) (Nat ∷ (Var 13) ∷ (Lam (Nat) (Lam (equation 0
     Nat (Var 14) (Var 0)) (Pi (Fin (Var 1)) (Pi (equation 0 (Fin (Var 2)) (applied (Elim 1 0) (Nat ∷ (Var 16) ∷ (Lam (Nat)
     (Lam (equation 0 Nat (Var 17) (Var 0)) (Pi (Fin (Var 18)) (Fin (Var 2))))) ∷ (Lam (Fin (Var 16)) (Var 0)) ∷ (Var 2) ∷
     (Var 1) ∷ (Var 15) ∷ [])) (Var 0)) (equation 0 (Fin (suc_term (Var 3))) (applied (Elim 1 0) (Nat ∷ (suc_term (Var 17))
@@ -377,8 +379,8 @@ row_gd : translate (behind (sample false) (FamilyOf has_family ∷ [])) plan_gd 
     19) (Var 0)) (Pi (Fin (Var 20)) (Fin (Var 2))))) ∷ (Lam (Fin (Var 18)) (Var 0)) ∷ (Var 18) ∷ (reflexivity 0 Nat (Var
     18)) ∷ (Var 17) ∷ [])) (Var 0)) (applied (Elim 1 0) ((Fin (Var 19)) ∷ (Var 18) ∷ (Lam (Fin (Var 19)) (Lam (equation 0
     (Fin (Var 20)) (Var 19) (Var 0)) (equation 0 Nat (suc_term (Var 21)) (suc_term (Var 21))))) ∷ (reflexivity 0 Nat
-    (suc_term (Var 19))) ∷ (Var 1) ∷ (Var 0) ∷ [])))) ∷ (Var 3) ∷ (Var 2) ∷ (Var 1) ∷ (Var 0) ∷ [])) ∷ (applied (Con 49 1)
-    ((Var 17) ∷ (Var 16) ∷ [])) ∷ [])) (applied (Con 49 1) ((Var 3) ∷ (Var 1) ∷ []))))))) ∷ (Lam (Fin (Var 13)) (Lam
+    (suc_term (Var 19))) ∷ (Var 1) ∷ (Var 0) ∷ [])))) ∷ (Var 3) ∷ (Var 2) ∷ (Var 1) ∷ (Var 0) ∷ [])) ∷ (applied (Con (after 3) 1)
+    ((Var 17) ∷ (Var 16) ∷ [])) ∷ [])) (applied (Con (after 3) 1) ((Var 3) ∷ (Var 1) ∷ []))))))) ∷ (Lam (Fin (Var 13)) (Lam
     (equation 0 (Fin (Var 14)) (applied (Elim 1 0) (Nat ∷ (Var 14) ∷ (Lam (Nat) (Lam (equation 0 Nat (Var 15) (Var 0)) (Pi
     (Fin (Var 16)) (Fin (Var 2))))) ∷ (Lam (Fin (Var 14)) (Var 0)) ∷ (Var 14) ∷ (reflexivity 0 Nat (Var 14)) ∷ (Var 13) ∷
     [])) (Var 0)) (applied (Elim 1 0) ((Fin (Var 15)) ∷ (Var 14) ∷ (Lam (Fin (Var 15)) (Lam (equation 0 (Fin (Var 16))
@@ -392,32 +394,32 @@ row_gd : translate (behind (sample false) (FamilyOf has_family ∷ [])) plan_gd 
     (Fin (Var 20)) (Fin (Var 2))))) ∷ (Lam (Fin (Var 18)) (Var 0)) ∷ (Var 18) ∷ (reflexivity 0 Nat (Var 18)) ∷ (Var 17) ∷
     [])) (Var 0)) (applied (Elim 1 0) ((Fin (Var 19)) ∷ (Var 18) ∷ (Lam (Fin (Var 19)) (Lam (equation 0 (Fin (Var 20))
     (Var 19) (Var 0)) (equation 0 Nat (suc_term (Var 21)) (suc_term (Var 21))))) ∷ (reflexivity 0 Nat (suc_term (Var 19)))
-    ∷ (Var 1) ∷ (Var 0) ∷ [])))) ∷ (Var 17) ∷ (reflexivity 0 Nat (Var 17)) ∷ (Var 1) ∷ (Var 0) ∷ [])) ∷ (applied (Con 49
-    1) ((Var 17) ∷ (Var 16) ∷ [])) ∷ [])) (applied (Con 49 1) ((Var 17) ∷ (Var 1) ∷ []))))) ∷ (reflexivity 0 (Fin
-    (suc_term (Var 15))) (applied (Con 49 1) ((Var 15) ∷ (Var 14) ∷ []))) ∷ (Var 1) ∷ (Var 0) ∷ [])))) ∷ (Var 13) ∷
-    (reflexivity 0 Nat (Var 13)) ∷ (Var 12) ∷ (reflexivity 0 (Fin (Var 13)) (Var 12)) ∷ [])) ∷ (applied (Con 52 1) ((Var
-    13) ∷ (Var 12) ∷ (Var 11) ∷ [])) ∷ [])) (Var 0)) (applied (Elim 1 0) ((applied (Fam 52) ((suc_term (Var 14)) ∷
-    (applied (Con 49 1) ((Var 14) ∷ (Var 13) ∷ [])) ∷ [])) ∷ (applied (Con 52 1) ((Var 14) ∷ (Var 13) ∷ (Var 12) ∷ [])) ∷
-    (Lam (applied (Fam 52) ((suc_term (Var 14)) ∷ (applied (Con 49 1) ((Var 14) ∷ (Var 13) ∷ [])) ∷ [])) (Lam (equation 0
-    (applied (Fam 52) ((suc_term (Var 15)) ∷ (applied (Con 49 1) ((Var 15) ∷ (Var 14) ∷ [])) ∷ [])) (applied (Con 52 1)
-    ((Var 15) ∷ (Var 14) ∷ (Var 13) ∷ [])) (Var 0)) (Nat))) ∷ (applied (Elim 31 0) ((App (Const 54) (Var 17)) ∷ (applied
-    (Const 53) ((Const 54) ∷ (Var 17) ∷ [])) ∷ (Lam (applied (Fam 31) ((App (Const 54) (Var 17)) ∷ (applied (Const 53)
-    ((Const 54) ∷ (Var 17) ∷ [])) ∷ [])) (App (Const 54) (Var 18))) ∷ (Lam (App (Const 54) (Var 17)) (Lam (applied (Const
-    53) ((Const 54) ∷ (Var 18) ∷ [])) (Var 1))) ∷ (applied (Elim 31 0) ((applied (Fam 31) ((App (Const 54) (Var 17)) ∷
-    (applied (Const 53) ((Const 54) ∷ (Var 17) ∷ [])) ∷ [])) ∷ (Fam 16) ∷ (Lam (applied (Fam 31) ((applied (Fam 31) ((App
-    (Const 54) (Var 17)) ∷ (applied (Const 53) ((Const 54) ∷ (Var 17) ∷ [])) ∷ [])) ∷ (Fam 16) ∷ [])) (applied (Fam 31)
-    ((App (Const 54) (Var 18)) ∷ (applied (Const 53) ((Const 54) ∷ (Var 18) ∷ [])) ∷ []))) ∷ (Lam (applied (Fam 31) ((App
-    (Const 54) (Var 17)) ∷ (applied (Const 53) ((Const 54) ∷ (Var 17) ∷ [])) ∷ [])) (Lam (Fam 16) (Var 1))) ∷ (Var 15) ∷
-    [])) ∷ (Var 14) ∷ (Var 13) ∷ (applied (Con 52 1) ((Var 14) ∷ (Var 13) ∷ (Var 12) ∷ [])) ∷ [])) ∷ (Var 1) ∷ (Var 0) ∷
+    ∷ (Var 1) ∷ (Var 0) ∷ [])))) ∷ (Var 17) ∷ (reflexivity 0 Nat (Var 17)) ∷ (Var 1) ∷ (Var 0) ∷ [])) ∷ (applied (Con (after 3)
+    1) ((Var 17) ∷ (Var 16) ∷ [])) ∷ [])) (applied (Con (after 3) 1) ((Var 17) ∷ (Var 1) ∷ []))))) ∷ (reflexivity 0 (Fin
+    (suc_term (Var 15))) (applied (Con (after 3) 1) ((Var 15) ∷ (Var 14) ∷ []))) ∷ (Var 1) ∷ (Var 0) ∷ [])))) ∷ (Var 13) ∷
+    (reflexivity 0 Nat (Var 13)) ∷ (Var 12) ∷ (reflexivity 0 (Fin (Var 13)) (Var 12)) ∷ [])) ∷ (applied (Con (after 6) 1) ((Var
+    13) ∷ (Var 12) ∷ (Var 11) ∷ [])) ∷ [])) (Var 0)) (applied (Elim 1 0) ((applied (Fam (after 6)) ((suc_term (Var 14)) ∷
+    (applied (Con (after 3) 1) ((Var 14) ∷ (Var 13) ∷ [])) ∷ [])) ∷ (applied (Con (after 6) 1) ((Var 14) ∷ (Var 13) ∷ (Var 12) ∷ [])) ∷
+    (Lam (applied (Fam (after 6)) ((suc_term (Var 14)) ∷ (applied (Con (after 3) 1) ((Var 14) ∷ (Var 13) ∷ [])) ∷ [])) (Lam (equation 0
+    (applied (Fam (after 6)) ((suc_term (Var 15)) ∷ (applied (Con (after 3) 1) ((Var 15) ∷ (Var 14) ∷ [])) ∷ [])) (applied (Con (after 6) 1)
+    ((Var 15) ∷ (Var 14) ∷ (Var 13) ∷ [])) (Var 0)) (Nat))) ∷ (applied (Elim (pair_type 0) 0) ((App (Const (after 8)) (Var 17)) ∷ (applied
+    (Const (after 7)) ((Const (after 8)) ∷ (Var 17) ∷ [])) ∷ (Lam (applied (Fam (pair_type 0)) ((App (Const (after 8)) (Var 17)) ∷ (applied (Const (after 7))
+    ((Const (after 8)) ∷ (Var 17) ∷ [])) ∷ [])) (App (Const (after 8)) (Var 18))) ∷ (Lam (App (Const (after 8)) (Var 17)) (Lam (applied (Const
+    (after 7)) ((Const (after 8)) ∷ (Var 18) ∷ [])) (Var 1))) ∷ (applied (Elim (pair_type 0) 0) ((applied (Fam (pair_type 0)) ((App (Const (after 8)) (Var 17)) ∷
+    (applied (Const (after 7)) ((Const (after 8)) ∷ (Var 17) ∷ [])) ∷ [])) ∷ (Fam (unit_type 0)) ∷ (Lam (applied (Fam (pair_type 0)) ((applied (Fam (pair_type 0)) ((App
+    (Const (after 8)) (Var 17)) ∷ (applied (Const (after 7)) ((Const (after 8)) ∷ (Var 17) ∷ [])) ∷ [])) ∷ (Fam (unit_type 0)) ∷ [])) (applied (Fam (pair_type 0))
+    ((App (Const (after 8)) (Var 18)) ∷ (applied (Const (after 7)) ((Const (after 8)) ∷ (Var 18) ∷ [])) ∷ []))) ∷ (Lam (applied (Fam (pair_type 0)) ((App
+    (Const (after 8)) (Var 17)) ∷ (applied (Const (after 7)) ((Const (after 8)) ∷ (Var 17) ∷ [])) ∷ [])) (Lam (Fam (unit_type 0)) (Var 1))) ∷ (Var 15) ∷
+    [])) ∷ (Var 14) ∷ (Var 13) ∷ (applied (Con (after 6) 1) ((Var 14) ∷ (Var 13) ∷ (Var 12) ∷ [])) ∷ [])) ∷ (Var 1) ∷ (Var 0) ∷
     [])))) ∷ (Var 3) ∷ (Var 1) ∷ (Var 2) ∷ (Var 0) ∷ [])))))) ∷ (Var 14) ∷ (Var 2) ∷ (Var 13) ∷ (Var 12) ∷ (Var 1) ∷ (Var
-    0) ∷ []))))) ∷ (Var 0) ∷ [])))))))) ∷ (suc_term (Var 5)) ∷ (applied (Con 49 1) ((Var 5) ∷ (Var 4) ∷ [])) ∷ (Var 3) ∷
-    (reflexivity 0 Nat (suc_term (Var 5))) ∷ (reflexivity 0 (Fin (suc_term (Var 5))) (applied (Con 49 1) ((Var 5) ∷ (Var
-    4) ∷ []))) ∷ (reflexivity 0 (applied (Fam 52) ((suc_term (Var 5)) ∷ (applied (Con 49 1) ((Var 5) ∷ (Var 4) ∷ [])) ∷
+    0) ∷ []))))) ∷ (Var 0) ∷ [])))))))) ∷ (suc_term (Var 5)) ∷ (applied (Con (after 3) 1) ((Var 5) ∷ (Var 4) ∷ [])) ∷ (Var 3) ∷
+    (reflexivity 0 Nat (suc_term (Var 5))) ∷ (reflexivity 0 (Fin (suc_term (Var 5))) (applied (Con (after 3) 1) ((Var 5) ∷ (Var
+    4) ∷ []))) ∷ (reflexivity 0 (applied (Fam (after 6)) ((suc_term (Var 5)) ∷ (applied (Con (after 3) 1) ((Var 5) ∷ (Var 4) ∷ [])) ∷
     [])) (Var 3)) ∷ []))) ∷ (Var 6) ∷ (Var 0) ∷ (Var 5) ∷ [])))) ∷ (Var 4) ∷ (reflexivity 0 Nat (Var 4)) ∷ []))))))) ∷
-    draft (codes "gd") 53 (codes "Nat!rec.0" ∷ codes "gd!motive" ∷ codes "gd!step" ∷ []) (Pi (Nat) (Pi (Nat) (Pi (Fin (Var
-    0)) (Pi (applied (Fam 52) ((suc_term (Var 1)) ∷ (applied (Con 49 1) ((Var 1) ∷ (Var 0) ∷ [])) ∷ [])) (Nat))))) (Lam
-    (Nat) (Lam (Nat) (Lam (Fin (Var 0)) (Lam (applied (Fam 52) ((suc_term (Var 1)) ∷ (applied (Con 49 1) ((Var 1) ∷ (Var
-    0) ∷ [])) ∷ [])) (applied (Const 53) ((Const 54) ∷ (Const 55) ∷ (Var 3) ∷ (Var 2) ∷ (Var 1) ∷ (Var 0) ∷ [])))))) ∷
+    draft (codes "gd") (after 7) (codes "Nat!rec.0" ∷ codes "gd!motive" ∷ codes "gd!step" ∷ []) (Pi (Nat) (Pi (Nat) (Pi (Fin (Var
+    0)) (Pi (applied (Fam (after 6)) ((suc_term (Var 1)) ∷ (applied (Con (after 3) 1) ((Var 1) ∷ (Var 0) ∷ [])) ∷ [])) (Nat))))) (Lam
+    (Nat) (Lam (Nat) (Lam (Fin (Var 0)) (Lam (applied (Fam (after 6)) ((suc_term (Var 1)) ∷ (applied (Con (after 3) 1) ((Var 1) ∷ (Var
+    0) ∷ [])) ∷ [])) (applied (Const (after 7)) ((Const (after 8)) ∷ (Const (after 9)) ∷ (Var 3) ∷ (Var 2) ∷ (Var 1) ∷ (Var 0) ∷ [])))))) ∷
     []))
 unfolding native.Mathlib.Decide.ℕ_discrete
 row_gd = refl

@@ -4,6 +4,8 @@ use Rattle.std.proofs.Common.{◌≡◌, false, Some, Ok, [], ◌∷◌, refl, c
 use Rattle.theory.specs.Terms.Term.{Var, Sort, Pi, Lam, App, Con, Fam, Elim, Const}
 use Rattle.theory.specs.Telescopes.{applied}
 use Rattle.theory.specs.Signatures.{equation, reflexivity, FamilyOf}
+use Rattle.theory.specs.Prelude.{unit_type, pair_type}
+use Rattle.theory.proofs.AfterPrelude.{after}
 use Rattle.core_terms.specs.Clauses.{Is, Side}
 use Rattle.core_terms.specs.Patterns as pattern
 use Rattle.core_terms.specs.Patterns.{vector}
@@ -13,227 +15,227 @@ use Rattle.tree_translation.proofs.Samples.{sample, behind, has_family, Nat, suc
 
 abbrev plan_has : Plan
 plan_has =
-    plan_of (behind (sample false) (FamilyOf has_family ∷ [])) 53 (codes "has") 0 (Nat ∷ Fin (Var 0) ∷ App (App (Fam 52)
-    (Var 1)) (Var 0) ∷ Nat ∷ []) (Nat) (Some 0) (Is (vector (pattern.Dot (suc_term (Var 1)) ∷ pattern.Dot (App (Con 49 0)
-    (Var 1)) ∷ pattern.Con 52 0 (vector (pattern.Bind ∷ [])) ∷ pattern.Bind ∷ [])) 2 (Side (Sort 0)) ∷ Is (vector
-    (pattern.Dot (suc_term (Var 3)) ∷ pattern.Dot (App (App (Con 49 1) (Var 3)) (Var 2)) ∷ pattern.Con 52 1 (vector
+    plan_of (behind (sample false) (FamilyOf has_family ∷ [])) (after 7) (codes "has") 0 (Nat ∷ Fin (Var 0) ∷ App (App (Fam (after 6))
+    (Var 1)) (Var 0) ∷ Nat ∷ []) (Nat) (Some 0) (Is (vector (pattern.Dot (suc_term (Var 1)) ∷ pattern.Dot (App (Con (after 3) 0)
+    (Var 1)) ∷ pattern.Con (after 6) 0 (vector (pattern.Bind ∷ [])) ∷ pattern.Bind ∷ [])) 2 (Side (Sort 0)) ∷ Is (vector
+    (pattern.Dot (suc_term (Var 3)) ∷ pattern.Dot (App (App (Con (after 3) 1) (Var 3)) (Var 2)) ∷ pattern.Con (after 6) 1 (vector
     (pattern.Bind ∷ pattern.Bind ∷ pattern.Bind ∷ [])) ∷ pattern.Bind ∷ [])) 4 (Side (Sort 0)) ∷ []) (Var 0 ∷ App (App
-    (App (App (Const 53) (Var 3)) (Var 2)) (Var 1)) (suc_term (Var 0)) ∷ [])
+    (App (App (Const (after 7)) (Var 3)) (Var 2)) (Var 1)) (suc_term (Var 0)) ∷ [])
 
-row_has : translate (behind (sample false) (FamilyOf has_family ∷ [])) plan_has ≡ (Ok (draft (codes "has!motive") 53
-    [] (Pi (Nat) (Sort 0)) (Lam (Nat) (Pi (Fin (Var 0)) (Pi (applied (Fam 52) ((Var 1) ∷ (Var 0) ∷ [])) (Pi (Nat)
-    (Nat))))) ∷ draft (codes "has!step") 53 (codes "Nat!below.0" ∷ codes "has!motive" ∷ codes "Has!case.0" ∷ []) (Pi (Nat)
-    (Pi (applied (Const 53) ((Const 54) ∷ (Var 0) ∷ [])) (Pi (Fin (Var 1)) (Pi (applied (Fam 52) ((Var 2) ∷ (Var 0) ∷ []))
-    (Pi (Nat) (Nat)))))) (Lam (Nat) (Lam (applied (Const 53) ((Const 54) ∷ (Var 0) ∷ [])) (Lam (Fin (Var 1)) (Lam (applied
-    (Fam 52) ((Var 2) ∷ (Var 0) ∷ [])) (Lam (Nat) (applied (Const 55) ((Lam (Nat) (Lam (Fin (Var 0)) (Lam (applied (Fam
-    52) ((Var 1) ∷ (Var 0) ∷ [])) (Pi (equation 0 Nat (Var 2) (Var 7)) (Pi (equation 0 (Fin (Var 8)) (applied (Elim 1 0)
+row_has : translate (behind (sample false) (FamilyOf has_family ∷ [])) plan_has ≡ (Ok (draft (codes "has!motive") (after 7)
+    [] (Pi (Nat) (Sort 0)) (Lam (Nat) (Pi (Fin (Var 0)) (Pi (applied (Fam (after 6)) ((Var 1) ∷ (Var 0) ∷ [])) (Pi (Nat)
+    (Nat))))) ∷ draft (codes "has!step") (after 7) (codes "Nat!below.0" ∷ codes "has!motive" ∷ codes "Has!case.0" ∷ []) (Pi (Nat)
+    (Pi (applied (Const (after 7)) ((Const (after 8)) ∷ (Var 0) ∷ [])) (Pi (Fin (Var 1)) (Pi (applied (Fam (after 6)) ((Var 2) ∷ (Var 0) ∷ []))
+    (Pi (Nat) (Nat)))))) (Lam (Nat) (Lam (applied (Const (after 7)) ((Const (after 8)) ∷ (Var 0) ∷ [])) (Lam (Fin (Var 1)) (Lam (applied
+    (Fam (after 6)) ((Var 2) ∷ (Var 0) ∷ [])) (Lam (Nat) (applied (Const (after 9)) ((Lam (Nat) (Lam (Fin (Var 0)) (Lam (applied (Fam
+    (after 6)) ((Var 1) ∷ (Var 0) ∷ [])) (Pi (equation 0 Nat (Var 2) (Var 7)) (Pi (equation 0 (Fin (Var 8)) (applied (Elim 1 0)
     (Nat ∷ (Var 3) ∷ (Lam (Nat) (Lam (equation 0 Nat (Var 4) (Var 0)) (Pi (Fin (Var 5)) (Fin (Var 2))))) ∷ (Lam (Fin (Var
-    3)) (Var 0)) ∷ (Var 8) ∷ (Var 0) ∷ (Var 2) ∷ [])) (Var 6)) (Pi (equation 0 (applied (Fam 52) ((Var 9) ∷ (Var 7) ∷ []))
+    3)) (Var 0)) ∷ (Var 8) ∷ (Var 0) ∷ (Var 2) ∷ [])) (Var 6)) (Pi (equation 0 (applied (Fam (after 6)) ((Var 9) ∷ (Var 7) ∷ []))
     (applied (Elim 1 0) (Nat ∷ (Var 4) ∷ (Lam (Nat) (Lam (equation 0 Nat (Var 5) (Var 0)) (Pi (Fin (Var 1)) (Pi (equation
     0 (Fin (Var 2)) (applied (Elim 1 0) (Nat ∷ (Var 7) ∷ (Lam (Nat) (Lam (equation 0 Nat (Var 8) (Var 0)) (Pi (Fin (Var
-    9)) (Fin (Var 2))))) ∷ (Lam (Fin (Var 7)) (Var 0)) ∷ (Var 2) ∷ (Var 1) ∷ (Var 6) ∷ [])) (Var 0)) (Pi (applied (Fam 52)
-    ((Var 8) ∷ (Var 7) ∷ [])) (applied (Fam 52) ((Var 4) ∷ (Var 2) ∷ []))))))) ∷ (Lam (Fin (Var 4)) (Lam (equation 0 (Fin
+    9)) (Fin (Var 2))))) ∷ (Lam (Fin (Var 7)) (Var 0)) ∷ (Var 2) ∷ (Var 1) ∷ (Var 6) ∷ [])) (Var 0)) (Pi (applied (Fam (after 6))
+    ((Var 8) ∷ (Var 7) ∷ [])) (applied (Fam (after 6)) ((Var 4) ∷ (Var 2) ∷ []))))))) ∷ (Lam (Fin (Var 4)) (Lam (equation 0 (Fin
     (Var 5)) (applied (Elim 1 0) (Nat ∷ (Var 5) ∷ (Lam (Nat) (Lam (equation 0 Nat (Var 6) (Var 0)) (Pi (Fin (Var 7)) (Fin
     (Var 2))))) ∷ (Lam (Fin (Var 5)) (Var 0)) ∷ (Var 5) ∷ (reflexivity 0 Nat (Var 5)) ∷ (Var 4) ∷ [])) (Var 0)) (applied
     (Elim 1 0) ((Fin (Var 6)) ∷ (Var 5) ∷ (Lam (Fin (Var 6)) (Lam (equation 0 (Fin (Var 7)) (Var 6) (Var 0)) (Pi (applied
-    (Fam 52) ((Var 8) ∷ (Var 7) ∷ [])) (applied (Fam 52) ((Var 9) ∷ (Var 2) ∷ []))))) ∷ (Lam (applied (Fam 52) ((Var 6) ∷
+    (Fam (after 6)) ((Var 8) ∷ (Var 7) ∷ [])) (applied (Fam (after 6)) ((Var 9) ∷ (Var 2) ∷ []))))) ∷ (Lam (applied (Fam (after 6)) ((Var 6) ∷
     (Var 5) ∷ [])) (Var 0)) ∷ (Var 1) ∷ (Var 0) ∷ [])))) ∷ (Var 9) ∷ (Var 1) ∷ (Var 7) ∷ (Var 0) ∷ (Var 2) ∷ [])) (Var 6))
     (Nat))))))) ∷ (Lam (Nat) (Lam (equation 0 Nat (suc_term (Var 0)) (Var 5)) (Lam (equation 0 (Fin (Var 6)) (applied
     (Elim 1 0) (Nat ∷ (suc_term (Var 1)) ∷ (Lam (Nat) (Lam (equation 0 Nat (suc_term (Var 2)) (Var 0)) (Pi (Fin (suc_term
-    (Var 3))) (Fin (Var 2))))) ∷ (Lam (Fin (suc_term (Var 1))) (Var 0)) ∷ (Var 6) ∷ (Var 0) ∷ (App (Con 49 0) (Var 1)) ∷
-    [])) (Var 4)) (Lam (equation 0 (applied (Fam 52) ((Var 7) ∷ (Var 5) ∷ [])) (applied (Elim 1 0) (Nat ∷ (suc_term (Var
+    (Var 3))) (Fin (Var 2))))) ∷ (Lam (Fin (suc_term (Var 1))) (Var 0)) ∷ (Var 6) ∷ (Var 0) ∷ (App (Con (after 3) 0) (Var 1)) ∷
+    [])) (Var 4)) (Lam (equation 0 (applied (Fam (after 6)) ((Var 7) ∷ (Var 5) ∷ [])) (applied (Elim 1 0) (Nat ∷ (suc_term (Var
     2)) ∷ (Lam (Nat) (Lam (equation 0 Nat (suc_term (Var 3)) (Var 0)) (Pi (Fin (Var 1)) (Pi (equation 0 (Fin (Var 2))
     (applied (Elim 1 0) (Nat ∷ (suc_term (Var 5)) ∷ (Lam (Nat) (Lam (equation 0 Nat (suc_term (Var 6)) (Var 0)) (Pi (Fin
-    (suc_term (Var 7))) (Fin (Var 2))))) ∷ (Lam (Fin (suc_term (Var 5))) (Var 0)) ∷ (Var 2) ∷ (Var 1) ∷ (App (Con 49 0)
-    (Var 5)) ∷ [])) (Var 0)) (Pi (applied (Fam 52) ((suc_term (Var 6)) ∷ (App (Con 49 0) (Var 6)) ∷ [])) (applied (Fam 52)
+    (suc_term (Var 7))) (Fin (Var 2))))) ∷ (Lam (Fin (suc_term (Var 5))) (Var 0)) ∷ (Var 2) ∷ (Var 1) ∷ (App (Con (after 3) 0)
+    (Var 5)) ∷ [])) (Var 0)) (Pi (applied (Fam (after 6)) ((suc_term (Var 6)) ∷ (App (Con (after 3) 0) (Var 6)) ∷ [])) (applied (Fam (after 6))
     ((Var 4) ∷ (Var 2) ∷ []))))))) ∷ (Lam (Fin (suc_term (Var 2))) (Lam (equation 0 (Fin (suc_term (Var 3))) (applied
     (Elim 1 0) (Nat ∷ (suc_term (Var 3)) ∷ (Lam (Nat) (Lam (equation 0 Nat (suc_term (Var 4)) (Var 0)) (Pi (Fin (suc_term
     (Var 5))) (Fin (Var 2))))) ∷ (Lam (Fin (suc_term (Var 3))) (Var 0)) ∷ (suc_term (Var 3)) ∷ (reflexivity 0 Nat
-    (suc_term (Var 3))) ∷ (App (Con 49 0) (Var 3)) ∷ [])) (Var 0)) (applied (Elim 1 0) ((Fin (suc_term (Var 4))) ∷ (App
-    (Con 49 0) (Var 4)) ∷ (Lam (Fin (suc_term (Var 4))) (Lam (equation 0 (Fin (suc_term (Var 5))) (App (Con 49 0) (Var 5))
-    (Var 0)) (Pi (applied (Fam 52) ((suc_term (Var 6)) ∷ (App (Con 49 0) (Var 6)) ∷ [])) (applied (Fam 52) ((suc_term (Var
-    7)) ∷ (Var 2) ∷ []))))) ∷ (Lam (applied (Fam 52) ((suc_term (Var 4)) ∷ (App (Con 49 0) (Var 4)) ∷ [])) (Var 0)) ∷ (Var
-    1) ∷ (Var 0) ∷ [])))) ∷ (Var 7) ∷ (Var 1) ∷ (Var 5) ∷ (Var 0) ∷ (App (Con 52 0) (Var 2)) ∷ [])) (Var 4)) (applied
+    (suc_term (Var 3))) ∷ (App (Con (after 3) 0) (Var 3)) ∷ [])) (Var 0)) (applied (Elim 1 0) ((Fin (suc_term (Var 4))) ∷ (App
+    (Con (after 3) 0) (Var 4)) ∷ (Lam (Fin (suc_term (Var 4))) (Lam (equation 0 (Fin (suc_term (Var 5))) (App (Con (after 3) 0) (Var 5))
+    (Var 0)) (Pi (applied (Fam (after 6)) ((suc_term (Var 6)) ∷ (App (Con (after 3) 0) (Var 6)) ∷ [])) (applied (Fam (after 6)) ((suc_term (Var
+    7)) ∷ (Var 2) ∷ []))))) ∷ (Lam (applied (Fam (after 6)) ((suc_term (Var 4)) ∷ (App (Con (after 3) 0) (Var 4)) ∷ [])) (Var 0)) ∷ (Var
+    1) ∷ (Var 0) ∷ [])))) ∷ (Var 7) ∷ (Var 1) ∷ (Var 5) ∷ (Var 0) ∷ (App (Con (after 6) 0) (Var 2)) ∷ [])) (Var 4)) (applied
     (Elim 1 0) (Nat ∷ (suc_term (Var 3)) ∷ (Lam (Nat) (Lam (equation 0 Nat (suc_term (Var 4)) (Var 0)) (Pi (applied (Const
-    53) ((Const 54) ∷ (Var 1) ∷ [])) (Pi (Fin (Var 2)) (Pi (applied (Fam 52) ((Var 3) ∷ (Var 0) ∷ [])) (Pi (equation 0
+    (after 7)) ((Const (after 8)) ∷ (Var 1) ∷ [])) (Pi (Fin (Var 2)) (Pi (applied (Fam (after 6)) ((Var 3) ∷ (Var 0) ∷ [])) (Pi (equation 0
     (Fin (Var 4)) (applied (Elim 1 0) (Nat ∷ (suc_term (Var 8)) ∷ (Lam (Nat) (Lam (equation 0 Nat (suc_term (Var 9)) (Var
     0)) (Pi (Fin (suc_term (Var 10))) (Fin (Var 2))))) ∷ (Lam (Fin (suc_term (Var 8))) (Var 0)) ∷ (Var 4) ∷ (Var 3) ∷ (App
-    (Con 49 0) (Var 8)) ∷ [])) (Var 1)) (Pi (equation 0 (applied (Fam 52) ((Var 5) ∷ (Var 2) ∷ [])) (applied (Elim 1 0)
+    (Con (after 3) 0) (Var 8)) ∷ [])) (Var 1)) (Pi (equation 0 (applied (Fam (after 6)) ((Var 5) ∷ (Var 2) ∷ [])) (applied (Elim 1 0)
     (Nat ∷ (suc_term (Var 9)) ∷ (Lam (Nat) (Lam (equation 0 Nat (suc_term (Var 10)) (Var 0)) (Pi (Fin (Var 1)) (Pi
     (equation 0 (Fin (Var 2)) (applied (Elim 1 0) (Nat ∷ (suc_term (Var 12)) ∷ (Lam (Nat) (Lam (equation 0 Nat (suc_term
     (Var 13)) (Var 0)) (Pi (Fin (suc_term (Var 14))) (Fin (Var 2))))) ∷ (Lam (Fin (suc_term (Var 12))) (Var 0)) ∷ (Var 2)
-    ∷ (Var 1) ∷ (App (Con 49 0) (Var 12)) ∷ [])) (Var 0)) (Pi (applied (Fam 52) ((suc_term (Var 13)) ∷ (App (Con 49 0)
-    (Var 13)) ∷ [])) (applied (Fam 52) ((Var 4) ∷ (Var 2) ∷ []))))))) ∷ (Lam (Fin (suc_term (Var 9))) (Lam (equation 0
+    ∷ (Var 1) ∷ (App (Con (after 3) 0) (Var 12)) ∷ [])) (Var 0)) (Pi (applied (Fam (after 6)) ((suc_term (Var 13)) ∷ (App (Con (after 3) 0)
+    (Var 13)) ∷ [])) (applied (Fam (after 6)) ((Var 4) ∷ (Var 2) ∷ []))))))) ∷ (Lam (Fin (suc_term (Var 9))) (Lam (equation 0
     (Fin (suc_term (Var 10))) (applied (Elim 1 0) (Nat ∷ (suc_term (Var 10)) ∷ (Lam (Nat) (Lam (equation 0 Nat (suc_term
     (Var 11)) (Var 0)) (Pi (Fin (suc_term (Var 12))) (Fin (Var 2))))) ∷ (Lam (Fin (suc_term (Var 10))) (Var 0)) ∷
-    (suc_term (Var 10)) ∷ (reflexivity 0 Nat (suc_term (Var 10))) ∷ (App (Con 49 0) (Var 10)) ∷ [])) (Var 0)) (applied
-    (Elim 1 0) ((Fin (suc_term (Var 11))) ∷ (App (Con 49 0) (Var 11)) ∷ (Lam (Fin (suc_term (Var 11))) (Lam (equation 0
-    (Fin (suc_term (Var 12))) (App (Con 49 0) (Var 12)) (Var 0)) (Pi (applied (Fam 52) ((suc_term (Var 13)) ∷ (App (Con 49
-    0) (Var 13)) ∷ [])) (applied (Fam 52) ((suc_term (Var 14)) ∷ (Var 2) ∷ []))))) ∷ (Lam (applied (Fam 52) ((suc_term
-    (Var 11)) ∷ (App (Con 49 0) (Var 11)) ∷ [])) (Var 0)) ∷ (Var 1) ∷ (Var 0) ∷ [])))) ∷ (Var 5) ∷ (Var 4) ∷ (Var 2) ∷
-    (Var 0) ∷ (App (Con 52 0) (Var 9)) ∷ [])) (Var 1)) (Nat)))))))) ∷ (Lam (applied (Const 53) ((Const 54) ∷ (suc_term
-    (Var 3)) ∷ [])) (Lam (Fin (suc_term (Var 4))) (Lam (applied (Fam 52) ((suc_term (Var 5)) ∷ (Var 0) ∷ [])) (Lam
+    (suc_term (Var 10)) ∷ (reflexivity 0 Nat (suc_term (Var 10))) ∷ (App (Con (after 3) 0) (Var 10)) ∷ [])) (Var 0)) (applied
+    (Elim 1 0) ((Fin (suc_term (Var 11))) ∷ (App (Con (after 3) 0) (Var 11)) ∷ (Lam (Fin (suc_term (Var 11))) (Lam (equation 0
+    (Fin (suc_term (Var 12))) (App (Con (after 3) 0) (Var 12)) (Var 0)) (Pi (applied (Fam (after 6)) ((suc_term (Var 13)) ∷ (App (Con (after 3)
+    0) (Var 13)) ∷ [])) (applied (Fam (after 6)) ((suc_term (Var 14)) ∷ (Var 2) ∷ []))))) ∷ (Lam (applied (Fam (after 6)) ((suc_term
+    (Var 11)) ∷ (App (Con (after 3) 0) (Var 11)) ∷ [])) (Var 0)) ∷ (Var 1) ∷ (Var 0) ∷ [])))) ∷ (Var 5) ∷ (Var 4) ∷ (Var 2) ∷
+    (Var 0) ∷ (App (Con (after 6) 0) (Var 9)) ∷ [])) (Var 1)) (Nat)))))))) ∷ (Lam (applied (Const (after 7)) ((Const (after 8)) ∷ (suc_term
+    (Var 3)) ∷ [])) (Lam (Fin (suc_term (Var 4))) (Lam (applied (Fam (after 6)) ((suc_term (Var 5)) ∷ (Var 0) ∷ [])) (Lam
     (equation 0 (Fin (suc_term (Var 6))) (applied (Elim 1 0) (Nat ∷ (suc_term (Var 6)) ∷ (Lam (Nat) (Lam (equation 0 Nat
     (suc_term (Var 7)) (Var 0)) (Pi (Fin (suc_term (Var 8))) (Fin (Var 2))))) ∷ (Lam (Fin (suc_term (Var 6))) (Var 0)) ∷
-    (suc_term (Var 6)) ∷ (reflexivity 0 Nat (suc_term (Var 6))) ∷ (App (Con 49 0) (Var 6)) ∷ [])) (Var 1)) (Lam (equation
-    0 (applied (Fam 52) ((suc_term (Var 7)) ∷ (Var 2) ∷ [])) (applied (Elim 1 0) (Nat ∷ (suc_term (Var 7)) ∷ (Lam (Nat)
+    (suc_term (Var 6)) ∷ (reflexivity 0 Nat (suc_term (Var 6))) ∷ (App (Con (after 3) 0) (Var 6)) ∷ [])) (Var 1)) (Lam (equation
+    0 (applied (Fam (after 6)) ((suc_term (Var 7)) ∷ (Var 2) ∷ [])) (applied (Elim 1 0) (Nat ∷ (suc_term (Var 7)) ∷ (Lam (Nat)
     (Lam (equation 0 Nat (suc_term (Var 8)) (Var 0)) (Pi (Fin (Var 1)) (Pi (equation 0 (Fin (Var 2)) (applied (Elim 1 0)
     (Nat ∷ (suc_term (Var 10)) ∷ (Lam (Nat) (Lam (equation 0 Nat (suc_term (Var 11)) (Var 0)) (Pi (Fin (suc_term (Var
-    12))) (Fin (Var 2))))) ∷ (Lam (Fin (suc_term (Var 10))) (Var 0)) ∷ (Var 2) ∷ (Var 1) ∷ (App (Con 49 0) (Var 10)) ∷
-    [])) (Var 0)) (Pi (applied (Fam 52) ((suc_term (Var 11)) ∷ (App (Con 49 0) (Var 11)) ∷ [])) (applied (Fam 52) ((Var 4)
+    12))) (Fin (Var 2))))) ∷ (Lam (Fin (suc_term (Var 10))) (Var 0)) ∷ (Var 2) ∷ (Var 1) ∷ (App (Con (after 3) 0) (Var 10)) ∷
+    [])) (Var 0)) (Pi (applied (Fam (after 6)) ((suc_term (Var 11)) ∷ (App (Con (after 3) 0) (Var 11)) ∷ [])) (applied (Fam (after 6)) ((Var 4)
     ∷ (Var 2) ∷ []))))))) ∷ (Lam (Fin (suc_term (Var 7))) (Lam (equation 0 (Fin (suc_term (Var 8))) (applied (Elim 1 0)
     (Nat ∷ (suc_term (Var 8)) ∷ (Lam (Nat) (Lam (equation 0 Nat (suc_term (Var 9)) (Var 0)) (Pi (Fin (suc_term (Var 10)))
     (Fin (Var 2))))) ∷ (Lam (Fin (suc_term (Var 8))) (Var 0)) ∷ (suc_term (Var 8)) ∷ (reflexivity 0 Nat (suc_term (Var
-    8))) ∷ (App (Con 49 0) (Var 8)) ∷ [])) (Var 0)) (applied (Elim 1 0) ((Fin (suc_term (Var 9))) ∷ (App (Con 49 0) (Var
-    9)) ∷ (Lam (Fin (suc_term (Var 9))) (Lam (equation 0 (Fin (suc_term (Var 10))) (App (Con 49 0) (Var 10)) (Var 0)) (Pi
-    (applied (Fam 52) ((suc_term (Var 11)) ∷ (App (Con 49 0) (Var 11)) ∷ [])) (applied (Fam 52) ((suc_term (Var 12)) ∷
-    (Var 2) ∷ []))))) ∷ (Lam (applied (Fam 52) ((suc_term (Var 9)) ∷ (App (Con 49 0) (Var 9)) ∷ [])) (Var 0)) ∷ (Var 1) ∷
-    (Var 0) ∷ [])))) ∷ (suc_term (Var 7)) ∷ (reflexivity 0 Nat (suc_term (Var 7))) ∷ (Var 2) ∷ (Var 0) ∷ (App (Con 52 0)
-    (Var 7)) ∷ [])) (Var 1)) (applied (Elim 1 0) ((Fin (suc_term (Var 8))) ∷ (App (Con 49 0) (Var 8)) ∷ (Lam (Fin
-    (suc_term (Var 8))) (Lam (equation 0 (Fin (suc_term (Var 9))) (App (Con 49 0) (Var 9)) (Var 0)) (Pi (applied (Fam 52)
-    ((suc_term (Var 10)) ∷ (Var 1) ∷ [])) (Pi (equation 0 (applied (Fam 52) ((suc_term (Var 11)) ∷ (Var 2) ∷ [])) (applied
+    8))) ∷ (App (Con (after 3) 0) (Var 8)) ∷ [])) (Var 0)) (applied (Elim 1 0) ((Fin (suc_term (Var 9))) ∷ (App (Con (after 3) 0) (Var
+    9)) ∷ (Lam (Fin (suc_term (Var 9))) (Lam (equation 0 (Fin (suc_term (Var 10))) (App (Con (after 3) 0) (Var 10)) (Var 0)) (Pi
+    (applied (Fam (after 6)) ((suc_term (Var 11)) ∷ (App (Con (after 3) 0) (Var 11)) ∷ [])) (applied (Fam (after 6)) ((suc_term (Var 12)) ∷
+    (Var 2) ∷ []))))) ∷ (Lam (applied (Fam (after 6)) ((suc_term (Var 9)) ∷ (App (Con (after 3) 0) (Var 9)) ∷ [])) (Var 0)) ∷ (Var 1) ∷
+    (Var 0) ∷ [])))) ∷ (suc_term (Var 7)) ∷ (reflexivity 0 Nat (suc_term (Var 7))) ∷ (Var 2) ∷ (Var 0) ∷ (App (Con (after 6) 0)
+    (Var 7)) ∷ [])) (Var 1)) (applied (Elim 1 0) ((Fin (suc_term (Var 8))) ∷ (App (Con (after 3) 0) (Var 8)) ∷ (Lam (Fin
+    (suc_term (Var 8))) (Lam (equation 0 (Fin (suc_term (Var 9))) (App (Con (after 3) 0) (Var 9)) (Var 0)) (Pi (applied (Fam (after 6))
+    ((suc_term (Var 10)) ∷ (Var 1) ∷ [])) (Pi (equation 0 (applied (Fam (after 6)) ((suc_term (Var 11)) ∷ (Var 2) ∷ [])) (applied
     (Elim 1 0) (Nat ∷ (suc_term (Var 11)) ∷ (Lam (Nat) (Lam (equation 0 Nat (suc_term (Var 12)) (Var 0)) (Pi (Fin (Var 1))
     (Pi (equation 0 (Fin (Var 2)) (applied (Elim 1 0) (Nat ∷ (suc_term (Var 14)) ∷ (Lam (Nat) (Lam (equation 0 Nat
     (suc_term (Var 15)) (Var 0)) (Pi (Fin (suc_term (Var 16))) (Fin (Var 2))))) ∷ (Lam (Fin (suc_term (Var 14))) (Var 0))
-    ∷ (Var 2) ∷ (Var 1) ∷ (App (Con 49 0) (Var 14)) ∷ [])) (Var 0)) (Pi (applied (Fam 52) ((suc_term (Var 15)) ∷ (App (Con
-    49 0) (Var 15)) ∷ [])) (applied (Fam 52) ((Var 4) ∷ (Var 2) ∷ []))))))) ∷ (Lam (Fin (suc_term (Var 11))) (Lam
+    ∷ (Var 2) ∷ (Var 1) ∷ (App (Con (after 3) 0) (Var 14)) ∷ [])) (Var 0)) (Pi (applied (Fam (after 6)) ((suc_term (Var 15)) ∷ (App (Con
+    (after 3) 0) (Var 15)) ∷ [])) (applied (Fam (after 6)) ((Var 4) ∷ (Var 2) ∷ []))))))) ∷ (Lam (Fin (suc_term (Var 11))) (Lam
     (equation 0 (Fin (suc_term (Var 12))) (applied (Elim 1 0) (Nat ∷ (suc_term (Var 12)) ∷ (Lam (Nat) (Lam (equation 0 Nat
     (suc_term (Var 13)) (Var 0)) (Pi (Fin (suc_term (Var 14))) (Fin (Var 2))))) ∷ (Lam (Fin (suc_term (Var 12))) (Var 0))
-    ∷ (suc_term (Var 12)) ∷ (reflexivity 0 Nat (suc_term (Var 12))) ∷ (App (Con 49 0) (Var 12)) ∷ [])) (Var 0)) (applied
-    (Elim 1 0) ((Fin (suc_term (Var 13))) ∷ (App (Con 49 0) (Var 13)) ∷ (Lam (Fin (suc_term (Var 13))) (Lam (equation 0
-    (Fin (suc_term (Var 14))) (App (Con 49 0) (Var 14)) (Var 0)) (Pi (applied (Fam 52) ((suc_term (Var 15)) ∷ (App (Con 49
-    0) (Var 15)) ∷ [])) (applied (Fam 52) ((suc_term (Var 16)) ∷ (Var 2) ∷ []))))) ∷ (Lam (applied (Fam 52) ((suc_term
-    (Var 13)) ∷ (App (Con 49 0) (Var 13)) ∷ [])) (Var 0)) ∷ (Var 1) ∷ (Var 0) ∷ [])))) ∷ (suc_term (Var 11)) ∷
-    (reflexivity 0 Nat (suc_term (Var 11))) ∷ (Var 2) ∷ (Var 1) ∷ (App (Con 52 0) (Var 11)) ∷ [])) (Var 0)) (Nat))))) ∷
-    (Lam (applied (Fam 52) ((suc_term (Var 8)) ∷ (App (Con 49 0) (Var 8)) ∷ [])) (Lam (equation 0 (applied (Fam 52)
-    ((suc_term (Var 9)) ∷ (App (Con 49 0) (Var 9)) ∷ [])) (applied (Elim 1 0) (Nat ∷ (suc_term (Var 9)) ∷ (Lam (Nat) (Lam
+    ∷ (suc_term (Var 12)) ∷ (reflexivity 0 Nat (suc_term (Var 12))) ∷ (App (Con (after 3) 0) (Var 12)) ∷ [])) (Var 0)) (applied
+    (Elim 1 0) ((Fin (suc_term (Var 13))) ∷ (App (Con (after 3) 0) (Var 13)) ∷ (Lam (Fin (suc_term (Var 13))) (Lam (equation 0
+    (Fin (suc_term (Var 14))) (App (Con (after 3) 0) (Var 14)) (Var 0)) (Pi (applied (Fam (after 6)) ((suc_term (Var 15)) ∷ (App (Con (after 3)
+    0) (Var 15)) ∷ [])) (applied (Fam (after 6)) ((suc_term (Var 16)) ∷ (Var 2) ∷ []))))) ∷ (Lam (applied (Fam (after 6)) ((suc_term
+    (Var 13)) ∷ (App (Con (after 3) 0) (Var 13)) ∷ [])) (Var 0)) ∷ (Var 1) ∷ (Var 0) ∷ [])))) ∷ (suc_term (Var 11)) ∷
+    (reflexivity 0 Nat (suc_term (Var 11))) ∷ (Var 2) ∷ (Var 1) ∷ (App (Con (after 6) 0) (Var 11)) ∷ [])) (Var 0)) (Nat))))) ∷
+    (Lam (applied (Fam (after 6)) ((suc_term (Var 8)) ∷ (App (Con (after 3) 0) (Var 8)) ∷ [])) (Lam (equation 0 (applied (Fam (after 6))
+    ((suc_term (Var 9)) ∷ (App (Con (after 3) 0) (Var 9)) ∷ [])) (applied (Elim 1 0) (Nat ∷ (suc_term (Var 9)) ∷ (Lam (Nat) (Lam
     (equation 0 Nat (suc_term (Var 10)) (Var 0)) (Pi (Fin (Var 1)) (Pi (equation 0 (Fin (Var 2)) (applied (Elim 1 0) (Nat
     ∷ (suc_term (Var 12)) ∷ (Lam (Nat) (Lam (equation 0 Nat (suc_term (Var 13)) (Var 0)) (Pi (Fin (suc_term (Var 14)))
-    (Fin (Var 2))))) ∷ (Lam (Fin (suc_term (Var 12))) (Var 0)) ∷ (Var 2) ∷ (Var 1) ∷ (App (Con 49 0) (Var 12)) ∷ [])) (Var
-    0)) (Pi (applied (Fam 52) ((suc_term (Var 13)) ∷ (App (Con 49 0) (Var 13)) ∷ [])) (applied (Fam 52) ((Var 4) ∷ (Var 2)
+    (Fin (Var 2))))) ∷ (Lam (Fin (suc_term (Var 12))) (Var 0)) ∷ (Var 2) ∷ (Var 1) ∷ (App (Con (after 3) 0) (Var 12)) ∷ [])) (Var
+    0)) (Pi (applied (Fam (after 6)) ((suc_term (Var 13)) ∷ (App (Con (after 3) 0) (Var 13)) ∷ [])) (applied (Fam (after 6)) ((Var 4) ∷ (Var 2)
     ∷ []))))))) ∷ (Lam (Fin (suc_term (Var 9))) (Lam (equation 0 (Fin (suc_term (Var 10))) (applied (Elim 1 0) (Nat ∷
     (suc_term (Var 10)) ∷ (Lam (Nat) (Lam (equation 0 Nat (suc_term (Var 11)) (Var 0)) (Pi (Fin (suc_term (Var 12))) (Fin
     (Var 2))))) ∷ (Lam (Fin (suc_term (Var 10))) (Var 0)) ∷ (suc_term (Var 10)) ∷ (reflexivity 0 Nat (suc_term (Var 10)))
-    ∷ (App (Con 49 0) (Var 10)) ∷ [])) (Var 0)) (applied (Elim 1 0) ((Fin (suc_term (Var 11))) ∷ (App (Con 49 0) (Var 11))
-    ∷ (Lam (Fin (suc_term (Var 11))) (Lam (equation 0 (Fin (suc_term (Var 12))) (App (Con 49 0) (Var 12)) (Var 0)) (Pi
-    (applied (Fam 52) ((suc_term (Var 13)) ∷ (App (Con 49 0) (Var 13)) ∷ [])) (applied (Fam 52) ((suc_term (Var 14)) ∷
-    (Var 2) ∷ []))))) ∷ (Lam (applied (Fam 52) ((suc_term (Var 11)) ∷ (App (Con 49 0) (Var 11)) ∷ [])) (Var 0)) ∷ (Var 1)
-    ∷ (Var 0) ∷ [])))) ∷ (suc_term (Var 9)) ∷ (reflexivity 0 Nat (suc_term (Var 9))) ∷ (App (Con 49 0) (Var 9)) ∷
-    (reflexivity 0 (Fin (suc_term (Var 9))) (App (Con 49 0) (Var 9))) ∷ (App (Con 52 0) (Var 9)) ∷ [])) (Var 0)) (applied
-    (Elim 1 0) ((applied (Fam 52) ((suc_term (Var 10)) ∷ (App (Con 49 0) (Var 10)) ∷ [])) ∷ (App (Con 52 0) (Var 10)) ∷
-    (Lam (applied (Fam 52) ((suc_term (Var 10)) ∷ (App (Con 49 0) (Var 10)) ∷ [])) (Lam (equation 0 (applied (Fam 52)
-    ((suc_term (Var 11)) ∷ (App (Con 49 0) (Var 11)) ∷ [])) (App (Con 52 0) (Var 11)) (Var 0)) (Nat))) ∷ (Var 11) ∷ (Var
+    ∷ (App (Con (after 3) 0) (Var 10)) ∷ [])) (Var 0)) (applied (Elim 1 0) ((Fin (suc_term (Var 11))) ∷ (App (Con (after 3) 0) (Var 11))
+    ∷ (Lam (Fin (suc_term (Var 11))) (Lam (equation 0 (Fin (suc_term (Var 12))) (App (Con (after 3) 0) (Var 12)) (Var 0)) (Pi
+    (applied (Fam (after 6)) ((suc_term (Var 13)) ∷ (App (Con (after 3) 0) (Var 13)) ∷ [])) (applied (Fam (after 6)) ((suc_term (Var 14)) ∷
+    (Var 2) ∷ []))))) ∷ (Lam (applied (Fam (after 6)) ((suc_term (Var 11)) ∷ (App (Con (after 3) 0) (Var 11)) ∷ [])) (Var 0)) ∷ (Var 1)
+    ∷ (Var 0) ∷ [])))) ∷ (suc_term (Var 9)) ∷ (reflexivity 0 Nat (suc_term (Var 9))) ∷ (App (Con (after 3) 0) (Var 9)) ∷
+    (reflexivity 0 (Fin (suc_term (Var 9))) (App (Con (after 3) 0) (Var 9))) ∷ (App (Con (after 6) 0) (Var 9)) ∷ [])) (Var 0)) (applied
+    (Elim 1 0) ((applied (Fam (after 6)) ((suc_term (Var 10)) ∷ (App (Con (after 3) 0) (Var 10)) ∷ [])) ∷ (App (Con (after 6) 0) (Var 10)) ∷
+    (Lam (applied (Fam (after 6)) ((suc_term (Var 10)) ∷ (App (Con (after 3) 0) (Var 10)) ∷ [])) (Lam (equation 0 (applied (Fam (after 6))
+    ((suc_term (Var 11)) ∷ (App (Con (after 3) 0) (Var 11)) ∷ [])) (App (Con (after 6) 0) (Var 11)) (Var 0)) (Nat))) ∷ (Var 11) ∷ (Var
     1) ∷ (Var 0) ∷ [])))) ∷ (Var 3) ∷ (Var 1) ∷ (Var 2) ∷ (Var 0) ∷ []))))))) ∷ (Var 8) ∷ (Var 2) ∷ (Var 7) ∷ (Var 6) ∷
-    (Var 5) ∷ (Var 1) ∷ (Var 0) ∷ [])))))) ∷ (Lam (Nat) (Lam (Fin (Var 0)) (Lam (applied (Fam 52) ((Var 1) ∷ (Var 0) ∷
+    (Var 5) ∷ (Var 1) ∷ (Var 0) ∷ [])))))) ∷ (Lam (Nat) (Lam (Fin (Var 0)) (Lam (applied (Fam (after 6)) ((Var 1) ∷ (Var 0) ∷
     [])) (Lam (equation 0 Nat (suc_term (Var 2)) (Var 7)) (Lam (equation 0 (Fin (Var 8)) (applied (Elim 1 0) (Nat ∷
     (suc_term (Var 3)) ∷ (Lam (Nat) (Lam (equation 0 Nat (suc_term (Var 4)) (Var 0)) (Pi (Fin (suc_term (Var 5))) (Fin
-    (Var 2))))) ∷ (Lam (Fin (suc_term (Var 3))) (Var 0)) ∷ (Var 8) ∷ (Var 0) ∷ (applied (Con 49 1) ((Var 3) ∷ (Var 2) ∷
-    [])) ∷ [])) (Var 6)) (Lam (equation 0 (applied (Fam 52) ((Var 9) ∷ (Var 7) ∷ [])) (applied (Elim 1 0) (Nat ∷ (suc_term
+    (Var 2))))) ∷ (Lam (Fin (suc_term (Var 3))) (Var 0)) ∷ (Var 8) ∷ (Var 0) ∷ (applied (Con (after 3) 1) ((Var 3) ∷ (Var 2) ∷
+    [])) ∷ [])) (Var 6)) (Lam (equation 0 (applied (Fam (after 6)) ((Var 9) ∷ (Var 7) ∷ [])) (applied (Elim 1 0) (Nat ∷ (suc_term
     (Var 4)) ∷ (Lam (Nat) (Lam (equation 0 Nat (suc_term (Var 5)) (Var 0)) (Pi (Fin (Var 1)) (Pi (equation 0 (Fin (Var 2))
     (applied (Elim 1 0) (Nat ∷ (suc_term (Var 7)) ∷ (Lam (Nat) (Lam (equation 0 Nat (suc_term (Var 8)) (Var 0)) (Pi (Fin
-    (suc_term (Var 9))) (Fin (Var 2))))) ∷ (Lam (Fin (suc_term (Var 7))) (Var 0)) ∷ (Var 2) ∷ (Var 1) ∷ (applied (Con 49
-    1) ((Var 7) ∷ (Var 6) ∷ [])) ∷ [])) (Var 0)) (Pi (applied (Fam 52) ((suc_term (Var 8)) ∷ (applied (Con 49 1) ((Var 8)
-    ∷ (Var 7) ∷ [])) ∷ [])) (applied (Fam 52) ((Var 4) ∷ (Var 2) ∷ []))))))) ∷ (Lam (Fin (suc_term (Var 4))) (Lam
+    (suc_term (Var 9))) (Fin (Var 2))))) ∷ (Lam (Fin (suc_term (Var 7))) (Var 0)) ∷ (Var 2) ∷ (Var 1) ∷ (applied (Con (after 3)
+    1) ((Var 7) ∷ (Var 6) ∷ [])) ∷ [])) (Var 0)) (Pi (applied (Fam (after 6)) ((suc_term (Var 8)) ∷ (applied (Con (after 3) 1) ((Var 8)
+    ∷ (Var 7) ∷ [])) ∷ [])) (applied (Fam (after 6)) ((Var 4) ∷ (Var 2) ∷ []))))))) ∷ (Lam (Fin (suc_term (Var 4))) (Lam
     (equation 0 (Fin (suc_term (Var 5))) (applied (Elim 1 0) (Nat ∷ (suc_term (Var 5)) ∷ (Lam (Nat) (Lam (equation 0 Nat
     (suc_term (Var 6)) (Var 0)) (Pi (Fin (suc_term (Var 7))) (Fin (Var 2))))) ∷ (Lam (Fin (suc_term (Var 5))) (Var 0)) ∷
-    (suc_term (Var 5)) ∷ (reflexivity 0 Nat (suc_term (Var 5))) ∷ (applied (Con 49 1) ((Var 5) ∷ (Var 4) ∷ [])) ∷ []))
-    (Var 0)) (applied (Elim 1 0) ((Fin (suc_term (Var 6))) ∷ (applied (Con 49 1) ((Var 6) ∷ (Var 5) ∷ [])) ∷ (Lam (Fin
-    (suc_term (Var 6))) (Lam (equation 0 (Fin (suc_term (Var 7))) (applied (Con 49 1) ((Var 7) ∷ (Var 6) ∷ [])) (Var 0))
-    (Pi (applied (Fam 52) ((suc_term (Var 8)) ∷ (applied (Con 49 1) ((Var 8) ∷ (Var 7) ∷ [])) ∷ [])) (applied (Fam 52)
-    ((suc_term (Var 9)) ∷ (Var 2) ∷ []))))) ∷ (Lam (applied (Fam 52) ((suc_term (Var 6)) ∷ (applied (Con 49 1) ((Var 6) ∷
-    (Var 5) ∷ [])) ∷ [])) (Var 0)) ∷ (Var 1) ∷ (Var 0) ∷ [])))) ∷ (Var 9) ∷ (Var 1) ∷ (Var 7) ∷ (Var 0) ∷ (applied (Con 52
+    (suc_term (Var 5)) ∷ (reflexivity 0 Nat (suc_term (Var 5))) ∷ (applied (Con (after 3) 1) ((Var 5) ∷ (Var 4) ∷ [])) ∷ []))
+    (Var 0)) (applied (Elim 1 0) ((Fin (suc_term (Var 6))) ∷ (applied (Con (after 3) 1) ((Var 6) ∷ (Var 5) ∷ [])) ∷ (Lam (Fin
+    (suc_term (Var 6))) (Lam (equation 0 (Fin (suc_term (Var 7))) (applied (Con (after 3) 1) ((Var 7) ∷ (Var 6) ∷ [])) (Var 0))
+    (Pi (applied (Fam (after 6)) ((suc_term (Var 8)) ∷ (applied (Con (after 3) 1) ((Var 8) ∷ (Var 7) ∷ [])) ∷ [])) (applied (Fam (after 6))
+    ((suc_term (Var 9)) ∷ (Var 2) ∷ []))))) ∷ (Lam (applied (Fam (after 6)) ((suc_term (Var 6)) ∷ (applied (Con (after 3) 1) ((Var 6) ∷
+    (Var 5) ∷ [])) ∷ [])) (Var 0)) ∷ (Var 1) ∷ (Var 0) ∷ [])))) ∷ (Var 9) ∷ (Var 1) ∷ (Var 7) ∷ (Var 0) ∷ (applied (Con (after 6)
     1) ((Var 4) ∷ (Var 3) ∷ (Var 2) ∷ [])) ∷ [])) (Var 6)) (applied (Elim 1 0) (Nat ∷ (suc_term (Var 5)) ∷ (Lam (Nat) (Lam
-    (equation 0 Nat (suc_term (Var 6)) (Var 0)) (Pi (applied (Const 53) ((Const 54) ∷ (Var 1) ∷ [])) (Pi (Fin (Var 2)) (Pi
-    (applied (Fam 52) ((Var 3) ∷ (Var 0) ∷ [])) (Pi (equation 0 (Fin (Var 4)) (applied (Elim 1 0) (Nat ∷ (suc_term (Var
+    (equation 0 Nat (suc_term (Var 6)) (Var 0)) (Pi (applied (Const (after 7)) ((Const (after 8)) ∷ (Var 1) ∷ [])) (Pi (Fin (Var 2)) (Pi
+    (applied (Fam (after 6)) ((Var 3) ∷ (Var 0) ∷ [])) (Pi (equation 0 (Fin (Var 4)) (applied (Elim 1 0) (Nat ∷ (suc_term (Var
     10)) ∷ (Lam (Nat) (Lam (equation 0 Nat (suc_term (Var 11)) (Var 0)) (Pi (Fin (suc_term (Var 12))) (Fin (Var 2))))) ∷
-    (Lam (Fin (suc_term (Var 10))) (Var 0)) ∷ (Var 4) ∷ (Var 3) ∷ (applied (Con 49 1) ((Var 10) ∷ (Var 9) ∷ [])) ∷ []))
-    (Var 1)) (Pi (equation 0 (applied (Fam 52) ((Var 5) ∷ (Var 2) ∷ [])) (applied (Elim 1 0) (Nat ∷ (suc_term (Var 11)) ∷
+    (Lam (Fin (suc_term (Var 10))) (Var 0)) ∷ (Var 4) ∷ (Var 3) ∷ (applied (Con (after 3) 1) ((Var 10) ∷ (Var 9) ∷ [])) ∷ []))
+    (Var 1)) (Pi (equation 0 (applied (Fam (after 6)) ((Var 5) ∷ (Var 2) ∷ [])) (applied (Elim 1 0) (Nat ∷ (suc_term (Var 11)) ∷
     (Lam (Nat) (Lam (equation 0 Nat (suc_term (Var 12)) (Var 0)) (Pi (Fin (Var 1)) (Pi (equation 0 (Fin (Var 2)) (applied
     (Elim 1 0) (Nat ∷ (suc_term (Var 14)) ∷ (Lam (Nat) (Lam (equation 0 Nat (suc_term (Var 15)) (Var 0)) (Pi (Fin
-    (suc_term (Var 16))) (Fin (Var 2))))) ∷ (Lam (Fin (suc_term (Var 14))) (Var 0)) ∷ (Var 2) ∷ (Var 1) ∷ (applied (Con 49
-    1) ((Var 14) ∷ (Var 13) ∷ [])) ∷ [])) (Var 0)) (Pi (applied (Fam 52) ((suc_term (Var 15)) ∷ (applied (Con 49 1) ((Var
-    15) ∷ (Var 14) ∷ [])) ∷ [])) (applied (Fam 52) ((Var 4) ∷ (Var 2) ∷ []))))))) ∷ (Lam (Fin (suc_term (Var 11))) (Lam
+    (suc_term (Var 16))) (Fin (Var 2))))) ∷ (Lam (Fin (suc_term (Var 14))) (Var 0)) ∷ (Var 2) ∷ (Var 1) ∷ (applied (Con (after 3)
+    1) ((Var 14) ∷ (Var 13) ∷ [])) ∷ [])) (Var 0)) (Pi (applied (Fam (after 6)) ((suc_term (Var 15)) ∷ (applied (Con (after 3) 1) ((Var
+    15) ∷ (Var 14) ∷ [])) ∷ [])) (applied (Fam (after 6)) ((Var 4) ∷ (Var 2) ∷ []))))))) ∷ (Lam (Fin (suc_term (Var 11))) (Lam
     (equation 0 (Fin (suc_term (Var 12))) (applied (Elim 1 0) (Nat ∷ (suc_term (Var 12)) ∷ (Lam (Nat) (Lam (equation 0 Nat
     (suc_term (Var 13)) (Var 0)) (Pi (Fin (suc_term (Var 14))) (Fin (Var 2))))) ∷ (Lam (Fin (suc_term (Var 12))) (Var 0))
-    ∷ (suc_term (Var 12)) ∷ (reflexivity 0 Nat (suc_term (Var 12))) ∷ (applied (Con 49 1) ((Var 12) ∷ (Var 11) ∷ [])) ∷
-    [])) (Var 0)) (applied (Elim 1 0) ((Fin (suc_term (Var 13))) ∷ (applied (Con 49 1) ((Var 13) ∷ (Var 12) ∷ [])) ∷ (Lam
-    (Fin (suc_term (Var 13))) (Lam (equation 0 (Fin (suc_term (Var 14))) (applied (Con 49 1) ((Var 14) ∷ (Var 13) ∷ []))
-    (Var 0)) (Pi (applied (Fam 52) ((suc_term (Var 15)) ∷ (applied (Con 49 1) ((Var 15) ∷ (Var 14) ∷ [])) ∷ [])) (applied
-    (Fam 52) ((suc_term (Var 16)) ∷ (Var 2) ∷ []))))) ∷ (Lam (applied (Fam 52) ((suc_term (Var 13)) ∷ (applied (Con 49 1)
+    ∷ (suc_term (Var 12)) ∷ (reflexivity 0 Nat (suc_term (Var 12))) ∷ (applied (Con (after 3) 1) ((Var 12) ∷ (Var 11) ∷ [])) ∷
+    [])) (Var 0)) (applied (Elim 1 0) ((Fin (suc_term (Var 13))) ∷ (applied (Con (after 3) 1) ((Var 13) ∷ (Var 12) ∷ [])) ∷ (Lam
+    (Fin (suc_term (Var 13))) (Lam (equation 0 (Fin (suc_term (Var 14))) (applied (Con (after 3) 1) ((Var 14) ∷ (Var 13) ∷ []))
+    (Var 0)) (Pi (applied (Fam (after 6)) ((suc_term (Var 15)) ∷ (applied (Con (after 3) 1) ((Var 15) ∷ (Var 14) ∷ [])) ∷ [])) (applied
+    (Fam (after 6)) ((suc_term (Var 16)) ∷ (Var 2) ∷ []))))) ∷ (Lam (applied (Fam (after 6)) ((suc_term (Var 13)) ∷ (applied (Con (after 3) 1)
     ((Var 13) ∷ (Var 12) ∷ [])) ∷ [])) (Var 0)) ∷ (Var 1) ∷ (Var 0) ∷ [])))) ∷ (Var 5) ∷ (Var 4) ∷ (Var 2) ∷ (Var 0) ∷
-    (applied (Con 52 1) ((Var 11) ∷ (Var 10) ∷ (Var 9) ∷ [])) ∷ [])) (Var 1)) (Nat)))))))) ∷ (Lam (applied (Const 53)
-    ((Const 54) ∷ (suc_term (Var 5)) ∷ [])) (Lam (Fin (suc_term (Var 6))) (Lam (applied (Fam 52) ((suc_term (Var 7)) ∷
+    (applied (Con (after 6) 1) ((Var 11) ∷ (Var 10) ∷ (Var 9) ∷ [])) ∷ [])) (Var 1)) (Nat)))))))) ∷ (Lam (applied (Const (after 7))
+    ((Const (after 8)) ∷ (suc_term (Var 5)) ∷ [])) (Lam (Fin (suc_term (Var 6))) (Lam (applied (Fam (after 6)) ((suc_term (Var 7)) ∷
     (Var 0) ∷ [])) (Lam (equation 0 (Fin (suc_term (Var 8))) (applied (Elim 1 0) (Nat ∷ (suc_term (Var 8)) ∷ (Lam (Nat)
     (Lam (equation 0 Nat (suc_term (Var 9)) (Var 0)) (Pi (Fin (suc_term (Var 10))) (Fin (Var 2))))) ∷ (Lam (Fin (suc_term
-    (Var 8))) (Var 0)) ∷ (suc_term (Var 8)) ∷ (reflexivity 0 Nat (suc_term (Var 8))) ∷ (applied (Con 49 1) ((Var 8) ∷ (Var
-    7) ∷ [])) ∷ [])) (Var 1)) (Lam (equation 0 (applied (Fam 52) ((suc_term (Var 9)) ∷ (Var 2) ∷ [])) (applied (Elim 1 0)
+    (Var 8))) (Var 0)) ∷ (suc_term (Var 8)) ∷ (reflexivity 0 Nat (suc_term (Var 8))) ∷ (applied (Con (after 3) 1) ((Var 8) ∷ (Var
+    7) ∷ [])) ∷ [])) (Var 1)) (Lam (equation 0 (applied (Fam (after 6)) ((suc_term (Var 9)) ∷ (Var 2) ∷ [])) (applied (Elim 1 0)
     (Nat ∷ (suc_term (Var 9)) ∷ (Lam (Nat) (Lam (equation 0 Nat (suc_term (Var 10)) (Var 0)) (Pi (Fin (Var 1)) (Pi
     (equation 0 (Fin (Var 2)) (applied (Elim 1 0) (Nat ∷ (suc_term (Var 12)) ∷ (Lam (Nat) (Lam (equation 0 Nat (suc_term
     (Var 13)) (Var 0)) (Pi (Fin (suc_term (Var 14))) (Fin (Var 2))))) ∷ (Lam (Fin (suc_term (Var 12))) (Var 0)) ∷ (Var 2)
-    ∷ (Var 1) ∷ (applied (Con 49 1) ((Var 12) ∷ (Var 11) ∷ [])) ∷ [])) (Var 0)) (Pi (applied (Fam 52) ((suc_term (Var 13))
-    ∷ (applied (Con 49 1) ((Var 13) ∷ (Var 12) ∷ [])) ∷ [])) (applied (Fam 52) ((Var 4) ∷ (Var 2) ∷ []))))))) ∷ (Lam (Fin
+    ∷ (Var 1) ∷ (applied (Con (after 3) 1) ((Var 12) ∷ (Var 11) ∷ [])) ∷ [])) (Var 0)) (Pi (applied (Fam (after 6)) ((suc_term (Var 13))
+    ∷ (applied (Con (after 3) 1) ((Var 13) ∷ (Var 12) ∷ [])) ∷ [])) (applied (Fam (after 6)) ((Var 4) ∷ (Var 2) ∷ []))))))) ∷ (Lam (Fin
     (suc_term (Var 9))) (Lam (equation 0 (Fin (suc_term (Var 10))) (applied (Elim 1 0) (Nat ∷ (suc_term (Var 10)) ∷ (Lam
     (Nat) (Lam (equation 0 Nat (suc_term (Var 11)) (Var 0)) (Pi (Fin (suc_term (Var 12))) (Fin (Var 2))))) ∷ (Lam (Fin
-    (suc_term (Var 10))) (Var 0)) ∷ (suc_term (Var 10)) ∷ (reflexivity 0 Nat (suc_term (Var 10))) ∷ (applied (Con 49 1)
-    ((Var 10) ∷ (Var 9) ∷ [])) ∷ [])) (Var 0)) (applied (Elim 1 0) ((Fin (suc_term (Var 11))) ∷ (applied (Con 49 1) ((Var
-    11) ∷ (Var 10) ∷ [])) ∷ (Lam (Fin (suc_term (Var 11))) (Lam (equation 0 (Fin (suc_term (Var 12))) (applied (Con 49 1)
-    ((Var 12) ∷ (Var 11) ∷ [])) (Var 0)) (Pi (applied (Fam 52) ((suc_term (Var 13)) ∷ (applied (Con 49 1) ((Var 13) ∷ (Var
-    12) ∷ [])) ∷ [])) (applied (Fam 52) ((suc_term (Var 14)) ∷ (Var 2) ∷ []))))) ∷ (Lam (applied (Fam 52) ((suc_term (Var
-    11)) ∷ (applied (Con 49 1) ((Var 11) ∷ (Var 10) ∷ [])) ∷ [])) (Var 0)) ∷ (Var 1) ∷ (Var 0) ∷ [])))) ∷ (suc_term (Var
-    9)) ∷ (reflexivity 0 Nat (suc_term (Var 9))) ∷ (Var 2) ∷ (Var 0) ∷ (applied (Con 52 1) ((Var 9) ∷ (Var 8) ∷ (Var 7) ∷
-    [])) ∷ [])) (Var 1)) (applied (Elim 1 0) ((Fin (suc_term (Var 10))) ∷ (applied (Con 49 1) ((Var 10) ∷ (Var 9) ∷ [])) ∷
-    (Lam (Fin (suc_term (Var 10))) (Lam (equation 0 (Fin (suc_term (Var 11))) (applied (Con 49 1) ((Var 11) ∷ (Var 10) ∷
-    [])) (Var 0)) (Pi (applied (Fam 52) ((suc_term (Var 12)) ∷ (Var 1) ∷ [])) (Pi (equation 0 (applied (Fam 52) ((suc_term
+    (suc_term (Var 10))) (Var 0)) ∷ (suc_term (Var 10)) ∷ (reflexivity 0 Nat (suc_term (Var 10))) ∷ (applied (Con (after 3) 1)
+    ((Var 10) ∷ (Var 9) ∷ [])) ∷ [])) (Var 0)) (applied (Elim 1 0) ((Fin (suc_term (Var 11))) ∷ (applied (Con (after 3) 1) ((Var
+    11) ∷ (Var 10) ∷ [])) ∷ (Lam (Fin (suc_term (Var 11))) (Lam (equation 0 (Fin (suc_term (Var 12))) (applied (Con (after 3) 1)
+    ((Var 12) ∷ (Var 11) ∷ [])) (Var 0)) (Pi (applied (Fam (after 6)) ((suc_term (Var 13)) ∷ (applied (Con (after 3) 1) ((Var 13) ∷ (Var
+    12) ∷ [])) ∷ [])) (applied (Fam (after 6)) ((suc_term (Var 14)) ∷ (Var 2) ∷ []))))) ∷ (Lam (applied (Fam (after 6)) ((suc_term (Var
+    11)) ∷ (applied (Con (after 3) 1) ((Var 11) ∷ (Var 10) ∷ [])) ∷ [])) (Var 0)) ∷ (Var 1) ∷ (Var 0) ∷ [])))) ∷ (suc_term (Var
+    9)) ∷ (reflexivity 0 Nat (suc_term (Var 9))) ∷ (Var 2) ∷ (Var 0) ∷ (applied (Con (after 6) 1) ((Var 9) ∷ (Var 8) ∷ (Var 7) ∷
+    [])) ∷ [])) (Var 1)) (applied (Elim 1 0) ((Fin (suc_term (Var 10))) ∷ (applied (Con (after 3) 1) ((Var 10) ∷ (Var 9) ∷ [])) ∷
+    (Lam (Fin (suc_term (Var 10))) (Lam (equation 0 (Fin (suc_term (Var 11))) (applied (Con (after 3) 1) ((Var 11) ∷ (Var 10) ∷
+    [])) (Var 0)) (Pi (applied (Fam (after 6)) ((suc_term (Var 12)) ∷ (Var 1) ∷ [])) (Pi (equation 0 (applied (Fam (after 6)) ((suc_term
     (Var 13)) ∷ (Var 2) ∷ [])) (applied (Elim 1 0) (Nat ∷ (suc_term (Var 13)) ∷ (Lam (Nat) (Lam (equation 0 Nat (suc_term
     (Var 14)) (Var 0)) (Pi (Fin (Var 1)) (Pi (equation 0 (Fin (Var 2)) (applied (Elim 1 0) (Nat ∷ (suc_term (Var 16)) ∷
     (Lam (Nat) (Lam (equation 0 Nat (suc_term (Var 17)) (Var 0)) (Pi (Fin (suc_term (Var 18))) (Fin (Var 2))))) ∷ (Lam
-    (Fin (suc_term (Var 16))) (Var 0)) ∷ (Var 2) ∷ (Var 1) ∷ (applied (Con 49 1) ((Var 16) ∷ (Var 15) ∷ [])) ∷ [])) (Var
-    0)) (Pi (applied (Fam 52) ((suc_term (Var 17)) ∷ (applied (Con 49 1) ((Var 17) ∷ (Var 16) ∷ [])) ∷ [])) (applied (Fam
-    52) ((Var 4) ∷ (Var 2) ∷ []))))))) ∷ (Lam (Fin (suc_term (Var 13))) (Lam (equation 0 (Fin (suc_term (Var 14)))
+    (Fin (suc_term (Var 16))) (Var 0)) ∷ (Var 2) ∷ (Var 1) ∷ (applied (Con (after 3) 1) ((Var 16) ∷ (Var 15) ∷ [])) ∷ [])) (Var
+    0)) (Pi (applied (Fam (after 6)) ((suc_term (Var 17)) ∷ (applied (Con (after 3) 1) ((Var 17) ∷ (Var 16) ∷ [])) ∷ [])) (applied (Fam
+    (after 6)) ((Var 4) ∷ (Var 2) ∷ []))))))) ∷ (Lam (Fin (suc_term (Var 13))) (Lam (equation 0 (Fin (suc_term (Var 14)))
     (applied (Elim 1 0) (Nat ∷ (suc_term (Var 14)) ∷ (Lam (Nat) (Lam (equation 0 Nat (suc_term (Var 15)) (Var 0)) (Pi (Fin
     (suc_term (Var 16))) (Fin (Var 2))))) ∷ (Lam (Fin (suc_term (Var 14))) (Var 0)) ∷ (suc_term (Var 14)) ∷ (reflexivity 0
-    Nat (suc_term (Var 14))) ∷ (applied (Con 49 1) ((Var 14) ∷ (Var 13) ∷ [])) ∷ [])) (Var 0)) (applied (Elim 1 0) ((Fin
-    (suc_term (Var 15))) ∷ (applied (Con 49 1) ((Var 15) ∷ (Var 14) ∷ [])) ∷ (Lam (Fin (suc_term (Var 15))) (Lam (equation
-    0 (Fin (suc_term (Var 16))) (applied (Con 49 1) ((Var 16) ∷ (Var 15) ∷ [])) (Var 0)) (Pi (applied (Fam 52) ((suc_term
-    (Var 17)) ∷ (applied (Con 49 1) ((Var 17) ∷ (Var 16) ∷ [])) ∷ [])) (applied (Fam 52) ((suc_term (Var 18)) ∷ (Var 2) ∷
-    []))))) ∷ (Lam (applied (Fam 52) ((suc_term (Var 15)) ∷ (applied (Con 49 1) ((Var 15) ∷ (Var 14) ∷ [])) ∷ [])) (Var
+    Nat (suc_term (Var 14))) ∷ (applied (Con (after 3) 1) ((Var 14) ∷ (Var 13) ∷ [])) ∷ [])) (Var 0)) (applied (Elim 1 0) ((Fin
+    (suc_term (Var 15))) ∷ (applied (Con (after 3) 1) ((Var 15) ∷ (Var 14) ∷ [])) ∷ (Lam (Fin (suc_term (Var 15))) (Lam (equation
+    0 (Fin (suc_term (Var 16))) (applied (Con (after 3) 1) ((Var 16) ∷ (Var 15) ∷ [])) (Var 0)) (Pi (applied (Fam (after 6)) ((suc_term
+    (Var 17)) ∷ (applied (Con (after 3) 1) ((Var 17) ∷ (Var 16) ∷ [])) ∷ [])) (applied (Fam (after 6)) ((suc_term (Var 18)) ∷ (Var 2) ∷
+    []))))) ∷ (Lam (applied (Fam (after 6)) ((suc_term (Var 15)) ∷ (applied (Con (after 3) 1) ((Var 15) ∷ (Var 14) ∷ [])) ∷ [])) (Var
     0)) ∷ (Var 1) ∷ (Var 0) ∷ [])))) ∷ (suc_term (Var 13)) ∷ (reflexivity 0 Nat (suc_term (Var 13))) ∷ (Var 2) ∷ (Var 1) ∷
-    (applied (Con 52 1) ((Var 13) ∷ (Var 12) ∷ (Var 11) ∷ [])) ∷ [])) (Var 0)) (Nat))))) ∷ (Lam (applied (Fam 52)
-    ((suc_term (Var 10)) ∷ (applied (Con 49 1) ((Var 10) ∷ (Var 9) ∷ [])) ∷ [])) (Lam (equation 0 (applied (Fam 52)
-    ((suc_term (Var 11)) ∷ (applied (Con 49 1) ((Var 11) ∷ (Var 10) ∷ [])) ∷ [])) (applied (Elim 1 0) (Nat ∷ (suc_term
+    (applied (Con (after 6) 1) ((Var 13) ∷ (Var 12) ∷ (Var 11) ∷ [])) ∷ [])) (Var 0)) (Nat))))) ∷ (Lam (applied (Fam (after 6))
+    ((suc_term (Var 10)) ∷ (applied (Con (after 3) 1) ((Var 10) ∷ (Var 9) ∷ [])) ∷ [])) (Lam (equation 0 (applied (Fam (after 6))
+    ((suc_term (Var 11)) ∷ (applied (Con (after 3) 1) ((Var 11) ∷ (Var 10) ∷ [])) ∷ [])) (applied (Elim 1 0) (Nat ∷ (suc_term
     (Var 11)) ∷ (Lam (Nat) (Lam (equation 0 Nat (suc_term (Var 12)) (Var 0)) (Pi (Fin (Var 1)) (Pi (equation 0 (Fin (Var
     2)) (applied (Elim 1 0) (Nat ∷ (suc_term (Var 14)) ∷ (Lam (Nat) (Lam (equation 0 Nat (suc_term (Var 15)) (Var 0)) (Pi
     (Fin (suc_term (Var 16))) (Fin (Var 2))))) ∷ (Lam (Fin (suc_term (Var 14))) (Var 0)) ∷ (Var 2) ∷ (Var 1) ∷ (applied
-    (Con 49 1) ((Var 14) ∷ (Var 13) ∷ [])) ∷ [])) (Var 0)) (Pi (applied (Fam 52) ((suc_term (Var 15)) ∷ (applied (Con 49
-    1) ((Var 15) ∷ (Var 14) ∷ [])) ∷ [])) (applied (Fam 52) ((Var 4) ∷ (Var 2) ∷ []))))))) ∷ (Lam (Fin (suc_term (Var
+    (Con (after 3) 1) ((Var 14) ∷ (Var 13) ∷ [])) ∷ [])) (Var 0)) (Pi (applied (Fam (after 6)) ((suc_term (Var 15)) ∷ (applied (Con (after 3)
+    1) ((Var 15) ∷ (Var 14) ∷ [])) ∷ [])) (applied (Fam (after 6)) ((Var 4) ∷ (Var 2) ∷ []))))))) ∷ (Lam (Fin (suc_term (Var
     11))) (Lam (equation 0 (Fin (suc_term (Var 12))) (applied (Elim 1 0) (Nat ∷ (suc_term (Var 12)) ∷ (Lam (Nat) (Lam
     (equation 0 Nat (suc_term (Var 13)) (Var 0)) (Pi (Fin (suc_term (Var 14))) (Fin (Var 2))))) ∷ (Lam (Fin (suc_term (Var
-    12))) (Var 0)) ∷ (suc_term (Var 12)) ∷ (reflexivity 0 Nat (suc_term (Var 12))) ∷ (applied (Con 49 1) ((Var 12) ∷ (Var
-    11) ∷ [])) ∷ [])) (Var 0)) (applied (Elim 1 0) ((Fin (suc_term (Var 13))) ∷ (applied (Con 49 1) ((Var 13) ∷ (Var 12) ∷
-    [])) ∷ (Lam (Fin (suc_term (Var 13))) (Lam (equation 0 (Fin (suc_term (Var 14))) (applied (Con 49 1) ((Var 14) ∷ (Var
-    13) ∷ [])) (Var 0)) (Pi (applied (Fam 52) ((suc_term (Var 15)) ∷ (applied (Con 49 1) ((Var 15) ∷ (Var 14) ∷ [])) ∷
-    [])) (applied (Fam 52) ((suc_term (Var 16)) ∷ (Var 2) ∷ []))))) ∷ (Lam (applied (Fam 52) ((suc_term (Var 13)) ∷
-    (applied (Con 49 1) ((Var 13) ∷ (Var 12) ∷ [])) ∷ [])) (Var 0)) ∷ (Var 1) ∷ (Var 0) ∷ [])))) ∷ (suc_term (Var 11)) ∷
-    (reflexivity 0 Nat (suc_term (Var 11))) ∷ (applied (Con 49 1) ((Var 11) ∷ (Var 10) ∷ [])) ∷ (reflexivity 0 (Fin
-    (suc_term (Var 11))) (applied (Con 49 1) ((Var 11) ∷ (Var 10) ∷ []))) ∷ (applied (Con 52 1) ((Var 11) ∷ (Var 10) ∷
-    (Var 9) ∷ [])) ∷ [])) (Var 0)) (applied (Elim 1 0) ((applied (Fam 52) ((suc_term (Var 12)) ∷ (applied (Con 49 1) ((Var
-    12) ∷ (Var 11) ∷ [])) ∷ [])) ∷ (applied (Con 52 1) ((Var 12) ∷ (Var 11) ∷ (Var 10) ∷ [])) ∷ (Lam (applied (Fam 52)
-    ((suc_term (Var 12)) ∷ (applied (Con 49 1) ((Var 12) ∷ (Var 11) ∷ [])) ∷ [])) (Lam (equation 0 (applied (Fam 52)
-    ((suc_term (Var 13)) ∷ (applied (Con 49 1) ((Var 13) ∷ (Var 12) ∷ [])) ∷ [])) (applied (Con 52 1) ((Var 13) ∷ (Var 12)
-    ∷ (Var 11) ∷ [])) (Var 0)) (Nat))) ∷ (applied (Elim 31 0) ((App (Const 54) (Var 12)) ∷ (applied (Const 53) ((Const 54)
-    ∷ (Var 12) ∷ [])) ∷ (Lam (applied (Fam 31) ((App (Const 54) (Var 12)) ∷ (applied (Const 53) ((Const 54) ∷ (Var 12) ∷
-    [])) ∷ [])) (App (Const 54) (Var 13))) ∷ (Lam (App (Const 54) (Var 12)) (Lam (applied (Const 53) ((Const 54) ∷ (Var
-    13) ∷ [])) (Var 1))) ∷ (applied (Elim 31 0) ((applied (Fam 31) ((App (Const 54) (Var 12)) ∷ (applied (Const 53)
-    ((Const 54) ∷ (Var 12) ∷ [])) ∷ [])) ∷ (Fam 16) ∷ (Lam (applied (Fam 31) ((applied (Fam 31) ((App (Const 54) (Var 12))
-    ∷ (applied (Const 53) ((Const 54) ∷ (Var 12) ∷ [])) ∷ [])) ∷ (Fam 16) ∷ [])) (applied (Fam 31) ((App (Const 54) (Var
-    13)) ∷ (applied (Const 53) ((Const 54) ∷ (Var 13) ∷ [])) ∷ []))) ∷ (Lam (applied (Fam 31) ((App (Const 54) (Var 12)) ∷
-    (applied (Const 53) ((Const 54) ∷ (Var 12) ∷ [])) ∷ [])) (Lam (Fam 16) (Var 1))) ∷ (Var 6) ∷ [])) ∷ (Var 11) ∷ (Var
+    12))) (Var 0)) ∷ (suc_term (Var 12)) ∷ (reflexivity 0 Nat (suc_term (Var 12))) ∷ (applied (Con (after 3) 1) ((Var 12) ∷ (Var
+    11) ∷ [])) ∷ [])) (Var 0)) (applied (Elim 1 0) ((Fin (suc_term (Var 13))) ∷ (applied (Con (after 3) 1) ((Var 13) ∷ (Var 12) ∷
+    [])) ∷ (Lam (Fin (suc_term (Var 13))) (Lam (equation 0 (Fin (suc_term (Var 14))) (applied (Con (after 3) 1) ((Var 14) ∷ (Var
+    13) ∷ [])) (Var 0)) (Pi (applied (Fam (after 6)) ((suc_term (Var 15)) ∷ (applied (Con (after 3) 1) ((Var 15) ∷ (Var 14) ∷ [])) ∷
+    [])) (applied (Fam (after 6)) ((suc_term (Var 16)) ∷ (Var 2) ∷ []))))) ∷ (Lam (applied (Fam (after 6)) ((suc_term (Var 13)) ∷
+    (applied (Con (after 3) 1) ((Var 13) ∷ (Var 12) ∷ [])) ∷ [])) (Var 0)) ∷ (Var 1) ∷ (Var 0) ∷ [])))) ∷ (suc_term (Var 11)) ∷
+    (reflexivity 0 Nat (suc_term (Var 11))) ∷ (applied (Con (after 3) 1) ((Var 11) ∷ (Var 10) ∷ [])) ∷ (reflexivity 0 (Fin
+    (suc_term (Var 11))) (applied (Con (after 3) 1) ((Var 11) ∷ (Var 10) ∷ []))) ∷ (applied (Con (after 6) 1) ((Var 11) ∷ (Var 10) ∷
+    (Var 9) ∷ [])) ∷ [])) (Var 0)) (applied (Elim 1 0) ((applied (Fam (after 6)) ((suc_term (Var 12)) ∷ (applied (Con (after 3) 1) ((Var
+    12) ∷ (Var 11) ∷ [])) ∷ [])) ∷ (applied (Con (after 6) 1) ((Var 12) ∷ (Var 11) ∷ (Var 10) ∷ [])) ∷ (Lam (applied (Fam (after 6))
+    ((suc_term (Var 12)) ∷ (applied (Con (after 3) 1) ((Var 12) ∷ (Var 11) ∷ [])) ∷ [])) (Lam (equation 0 (applied (Fam (after 6))
+    ((suc_term (Var 13)) ∷ (applied (Con (after 3) 1) ((Var 13) ∷ (Var 12) ∷ [])) ∷ [])) (applied (Con (after 6) 1) ((Var 13) ∷ (Var 12)
+    ∷ (Var 11) ∷ [])) (Var 0)) (Nat))) ∷ (applied (Elim (pair_type 0) 0) ((App (Const (after 8)) (Var 12)) ∷ (applied (Const (after 7)) ((Const (after 8))
+    ∷ (Var 12) ∷ [])) ∷ (Lam (applied (Fam (pair_type 0)) ((App (Const (after 8)) (Var 12)) ∷ (applied (Const (after 7)) ((Const (after 8)) ∷ (Var 12) ∷
+    [])) ∷ [])) (App (Const (after 8)) (Var 13))) ∷ (Lam (App (Const (after 8)) (Var 12)) (Lam (applied (Const (after 7)) ((Const (after 8)) ∷ (Var
+    13) ∷ [])) (Var 1))) ∷ (applied (Elim (pair_type 0) 0) ((applied (Fam (pair_type 0)) ((App (Const (after 8)) (Var 12)) ∷ (applied (Const (after 7))
+    ((Const (after 8)) ∷ (Var 12) ∷ [])) ∷ [])) ∷ (Fam (unit_type 0)) ∷ (Lam (applied (Fam (pair_type 0)) ((applied (Fam (pair_type 0)) ((App (Const (after 8)) (Var 12))
+    ∷ (applied (Const (after 7)) ((Const (after 8)) ∷ (Var 12) ∷ [])) ∷ [])) ∷ (Fam (unit_type 0)) ∷ [])) (applied (Fam (pair_type 0)) ((App (Const (after 8)) (Var
+    13)) ∷ (applied (Const (after 7)) ((Const (after 8)) ∷ (Var 13) ∷ [])) ∷ []))) ∷ (Lam (applied (Fam (pair_type 0)) ((App (Const (after 8)) (Var 12)) ∷
+    (applied (Const (after 7)) ((Const (after 8)) ∷ (Var 12) ∷ [])) ∷ [])) (Lam (Fam (unit_type 0)) (Var 1))) ∷ (Var 6) ∷ [])) ∷ (Var 11) ∷ (Var
     10) ∷ (suc_term (Var 13)) ∷ [])) ∷ (Var 1) ∷ (Var 0) ∷ [])))) ∷ (Var 3) ∷ (Var 1) ∷ (Var 2) ∷ (Var 0) ∷ []))))))) ∷
     (Var 10) ∷ (Var 2) ∷ (Var 9) ∷ (Var 8) ∷ (Var 7) ∷ (Var 1) ∷ (Var 0) ∷ [])))))))) ∷ (Var 4) ∷ (Var 2) ∷ (Var 1) ∷
-    (reflexivity 0 Nat (Var 4)) ∷ (reflexivity 0 (Fin (Var 4)) (Var 2)) ∷ (reflexivity 0 (applied (Fam 52) ((Var 4) ∷ (Var
-    2) ∷ [])) (Var 1)) ∷ []))))))) ∷ draft (codes "has") 53 (codes "Nat!rec.0" ∷ codes "has!motive" ∷ codes "has!step" ∷
-    []) (Pi (Nat) (Pi (Fin (Var 0)) (Pi (applied (Fam 52) ((Var 1) ∷ (Var 0) ∷ [])) (Pi (Nat) (Nat))))) (Lam (Nat) (Lam
-    (Fin (Var 0)) (Lam (applied (Fam 52) ((Var 1) ∷ (Var 0) ∷ [])) (Lam (Nat) (applied (Const 53) ((Const 54) ∷ (Const 55)
+    (reflexivity 0 Nat (Var 4)) ∷ (reflexivity 0 (Fin (Var 4)) (Var 2)) ∷ (reflexivity 0 (applied (Fam (after 6)) ((Var 4) ∷ (Var
+    2) ∷ [])) (Var 1)) ∷ []))))))) ∷ draft (codes "has") (after 7) (codes "Nat!rec.0" ∷ codes "has!motive" ∷ codes "has!step" ∷
+    []) (Pi (Nat) (Pi (Fin (Var 0)) (Pi (applied (Fam (after 6)) ((Var 1) ∷ (Var 0) ∷ [])) (Pi (Nat) (Nat))))) (Lam (Nat) (Lam
+    (Fin (Var 0)) (Lam (applied (Fam (after 6)) ((Var 1) ∷ (Var 0) ∷ [])) (Lam (Nat) (applied (Const (after 7)) ((Const (after 8)) ∷ (Const (after 9))
     ∷ (Var 3) ∷ (Var 2) ∷ (Var 1) ∷ (Var 0) ∷ [])))))) ∷ []))
 unfolding native.Mathlib.Decide.ℕ_discrete
 row_has = refl

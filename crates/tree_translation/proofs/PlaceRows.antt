@@ -2,6 +2,7 @@
 use native.Mathlib.Decide.{ℕ_discrete}
 use Rattle.std.proofs.Common.{◌≡◌, false, Some, [], ◌∷◌, refl, codes}
 use Rattle.theory.specs.Terms.Term.{Var, Sort, Lam, App, Con, Fam, Const}
+use Rattle.theory.proofs.AfterPrelude.{after}
 use Rattle.core_terms.specs.CaseTrees.{Walk}
 use Rattle.tree_translation.specs.Mappings.{mapping, in_old_order}
 use Rattle.tree_translation.specs.Naming.{helper_name}
@@ -15,20 +16,20 @@ abbrev walk : Walk
 walk = record {
   ctx = Nat ∷ Nat ∷ Nat ∷ [];
   goal = Nat;
-  subst = suc_term (Var 2) ∷ App (Con 51 0) (Var 1) ∷ [];
+  subst = suc_term (Var 2) ∷ App (Con (after 5) 0) (Var 1) ∷ [];
   terms = suc_term (Var 2) ∷ Var 1 ∷ [];
   binds = [];
   dots = [];
 }
 
 -- The first variable occurs under a constructor that both have, the second one as a parameter of another, and the third one nowhere.
-places : mapping walk (suc_term (suc_term (Var 0)) ∷ App (Con 51 0) (Fam 48) ∷ []) (suc_term (Var 5) ∷ Var 7 ∷ [])
-    ≡ suc_term (Var 0) ∷ Fam 48 ∷ Sort 0 ∷ []
+places : mapping walk (suc_term (suc_term (Var 0)) ∷ App (Con (after 5) 0) (Fam (after 2)) ∷ []) (suc_term (Var 5) ∷ Var 7 ∷ [])
+    ≡ suc_term (Var 0) ∷ Fam (after 2) ∷ Sort 0 ∷ []
 unfolding native.Mathlib.Decide.ℕ_discrete
 places = refl
 
 -- where the leaf has no constructor, or another one, a later place gives the term
-later_places : mapping walk (Var 3 ∷ Con 46 0 ∷ []) (suc_term (Var 5) ∷ Var 7 ∷ []) ≡ Var 5 ∷ Var 7 ∷ Sort 0 ∷ []
+later_places : mapping walk (Var 3 ∷ Con (after 0) 0 ∷ []) (suc_term (Var 5) ∷ Var 7 ∷ []) ≡ Var 5 ∷ Var 7 ∷ Sort 0 ∷ []
 unfolding native.Mathlib.Decide.ℕ_discrete
 later_places = refl
 
@@ -45,23 +46,23 @@ last_number = refl
 -- ---- calls
 
 abbrev plan : Plan
-plan = plan_of (sample false) 52 (codes "f") 0 (Nat ∷ Nat ∷ []) Nat (Some 0) [] []
+plan = plan_of (sample false) (after 6) (codes "f") 0 (Nat ∷ Nat ∷ []) Nat (Some 0) [] []
 
 abbrev recursion : Recursion
-recursion = record { position = 0; admission = record { number = 46; fixed = []; indices = [] }; family = nat_family }
+recursion = record { position = 0; admission = record { number = after 0; fixed = []; indices = [] }; family = nat_family }
 
 -- at a leaf with the terms suc n and m, in the context n m b
 abbrev leaf : Place
 leaf = record { terms = suc_term (Var 2) ∷ Var 1 ∷ []; recursion = Some (recursion, Var 0) }
 
 -- m is no strict part of suc n: the below value itself is applied to the other argument, also below a binder, where it has another number
-below_itself : with_calls (λ name. 60) plan leaf 0 [] (Lam Nat (suc_term (App (App own (Var 2)) (Var 0))))
+below_itself : with_calls (λ name. after 14) plan leaf 0 [] (Lam Nat (suc_term (App (App own (Var 2)) (Var 0))))
     ≡ Lam Nat (suc_term (App (Var 1) (Var 0)))
 unfolding native.Mathlib.Decide.ℕ_discrete
 below_itself = refl
 
 -- a helper's call has the below value after its arguments
-helper_with_below : with_calls (λ name. 60) plan leaf 0 [] (App (App (Const 53) (Var 2)) (Var 1))
-    ≡ App (App (App (Const 60) (Var 2)) (Var 1)) (Var 0)
+helper_with_below : with_calls (λ name. after 14) plan leaf 0 [] (App (App (Const (after 7)) (Var 2)) (Var 1))
+    ≡ App (App (App (Const (after 14)) (Var 2)) (Var 1)) (Var 0)
 unfolding native.Mathlib.Decide.ℕ_discrete
 helper_with_below = refl

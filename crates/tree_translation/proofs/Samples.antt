@@ -6,6 +6,7 @@ use Rattle.theory.specs.Telescopes.{Telescope, products, variables}
 use Rattle.theory.specs.Families.{Plain, Recursive, Family}
 use Rattle.theory.specs.Prelude.{prelude}
 use Rattle.theory.specs.Signatures.{Signature, Entry, FamilyOf, Definition}
+use Rattle.theory.proofs.AfterPrelude.{after}
 use Rattle.core_terms.specs.CaseTrees.{Tree, Leaf, Walk}
 use Rattle.core_terms.specs.Clauses.{Clause, Clauses, clauses as all_clauses}
 use Rattle.core_sig.specs.Drafts.{Draft}
@@ -33,14 +34,14 @@ abbrev pub vec_family : Family
 vec_family = record {
   name = codes "Vec";
   parameters = Sort 0 ∷ [];
-  indices = (Fam 46, 0) ∷ [];
+  indices = (Fam (after 0), 0) ∷ [];
   level = 0;
   constructors =
-      record { name = codes "nil"; arguments = []; targets = Con 46 0 ∷ [] }
+      record { name = codes "nil"; arguments = []; targets = Con (after 0) 0 ∷ [] }
       ∷ record {
         name = codes "cons";
-        arguments = Plain (Fam 46) 0 ∷ Plain (Var 1) 0 ∷ Recursive [] (Var 1 ∷ []) 0 ∷ [];
-        targets = App (Con 46 1) (Var 2) ∷ [];
+        arguments = Plain (Fam (after 0)) 0 ∷ Plain (Var 1) 0 ∷ Recursive [] (Var 1 ∷ []) 0 ∷ [];
+        targets = App (Con (after 0) 1) (Var 2) ∷ [];
       }
       ∷ [];
 }
@@ -61,14 +62,14 @@ abbrev pub fin_family : Family
 fin_family = record {
   name = codes "Fin";
   parameters = [];
-  indices = (Fam 46, 0) ∷ [];
+  indices = (Fam (after 0), 0) ∷ [];
   level = 0;
   constructors =
-      record { name = codes "fzero"; arguments = Plain (Fam 46) 0 ∷ []; targets = App (Con 46 1) (Var 0) ∷ [] }
+      record { name = codes "fzero"; arguments = Plain (Fam (after 0)) 0 ∷ []; targets = App (Con (after 0) 1) (Var 0) ∷ [] }
       ∷ record {
         name = codes "fsuc";
-        arguments = Plain (Fam 46) 0 ∷ Recursive [] (Var 0 ∷ []) 0 ∷ [];
-        targets = App (Con 46 1) (Var 1) ∷ [];
+        arguments = Plain (Fam (after 0)) 0 ∷ Recursive [] (Var 0 ∷ []) 0 ∷ [];
+        targets = App (Con (after 0) 1) (Var 1) ∷ [];
       }
       ∷ [];
 }
@@ -119,18 +120,18 @@ abbrev pub has_family : Family
 has_family = record {
   name = codes "Has";
   parameters = [];
-  indices = (Fam 46, 0) ∷ (App (Fam 49) (Var 0), 0) ∷ [];
+  indices = (Fam (after 0), 0) ∷ (App (Fam (after 3)) (Var 0), 0) ∷ [];
   level = 0;
   constructors =
       record {
         name = codes "here";
-        arguments = Plain (Fam 46) 0 ∷ [];
-        targets = App (Con 46 1) (Var 0) ∷ App (Con 49 0) (Var 0) ∷ [];
+        arguments = Plain (Fam (after 0)) 0 ∷ [];
+        targets = App (Con (after 0) 1) (Var 0) ∷ App (Con (after 3) 0) (Var 0) ∷ [];
       }
       ∷ record {
         name = codes "there";
-        arguments = Plain (Fam 46) 0 ∷ Plain (App (Fam 49) (Var 0)) 0 ∷ Recursive [] (Var 1 ∷ Var 0 ∷ []) 0 ∷ [];
-        targets = App (Con 46 1) (Var 2) ∷ App (App (Con 49 1) (Var 2)) (Var 1) ∷ [];
+        arguments = Plain (Fam (after 0)) 0 ∷ Plain (App (Fam (after 3)) (Var 0)) 0 ∷ Recursive [] (Var 1 ∷ Var 0 ∷ []) 0 ∷ [];
+        targets = App (Con (after 0) 1) (Var 2) ∷ App (App (Con (after 3) 1) (Var 2)) (Var 1) ∷ [];
       }
       ∷ [];
 }
@@ -139,20 +140,20 @@ abbrev pub up_family : Family
 up_family = record {
   name = codes "Up";
   parameters = [];
-  indices = (Fam 46, 0) ∷ (App (Fam 49) (Var 0), 0) ∷ [];
+  indices = (Fam (after 0), 0) ∷ (App (Fam (after 3)) (Var 0), 0) ∷ [];
   level = 0;
   constructors =
       record {
         name = codes "stop";
-        arguments = Plain (Fam 46) 0 ∷ Plain (App (Fam 49) (Var 0)) 0 ∷ [];
+        arguments = Plain (Fam (after 0)) 0 ∷ Plain (App (Fam (after 3)) (Var 0)) 0 ∷ [];
         targets = Var 1 ∷ Var 0 ∷ [];
       }
       ∷ record {
         name = codes "go";
         arguments =
-            Plain (Fam 46) 0
-            ∷ Plain (App (Fam 49) (Var 0)) 0
-            ∷ Recursive [] (App (Con 46 1) (Var 1) ∷ App (App (Con 49 1) (Var 1)) (Var 0) ∷ []) 0
+            Plain (Fam (after 0)) 0
+            ∷ Plain (App (Fam (after 3)) (Var 0)) 0
+            ∷ Recursive [] (App (Con (after 0) 1) (Var 1) ∷ App (App (Con (after 3) 1) (Var 1)) (Var 0) ∷ []) 0
             ∷ [];
         targets = Var 2 ∷ Var 1 ∷ [];
       }
@@ -163,11 +164,11 @@ abbrev pub parity_family : Family
 parity_family = record {
   name = codes "Parity";
   parameters = [];
-  indices = (Fam 46, 0) ∷ [];
+  indices = (Fam (after 0), 0) ∷ [];
   level = 0;
   constructors =
-      record { name = codes "even"; arguments = Plain (Fam 46) 0 ∷ []; targets = App (Const 52) (Var 0) ∷ [] }
-      ∷ record { name = codes "odd"; arguments = Plain (Fam 46) 0 ∷ []; targets = App (Con 46 1) (App (Const 52) (Var 0)) ∷ [] }
+      record { name = codes "even"; arguments = Plain (Fam (after 0)) 0 ∷ []; targets = App (Const (after 6)) (Var 0) ∷ [] }
+      ∷ record { name = codes "odd"; arguments = Plain (Fam (after 0)) 0 ∷ []; targets = App (Con (after 0) 1) (App (Const (after 6)) (Var 0)) ∷ [] }
       ∷ [];
 }
 
@@ -175,13 +176,13 @@ abbrev pub vg_family : Family
 vg_family = record {
   name = codes "Vg";
   parameters = Sort 0 ∷ [];
-  indices = (Fam 46, 0) ∷ [];
+  indices = (Fam (after 0), 0) ∷ [];
   level = 0;
   constructors =
-      record { name = codes "ve"; arguments = Plain (Fam 46) 0 ∷ []; targets = Var 0 ∷ [] }
+      record { name = codes "ve"; arguments = Plain (Fam (after 0)) 0 ∷ []; targets = Var 0 ∷ [] }
       ∷ record {
         name = codes "vc";
-        arguments = Plain (Fam 46) 0 ∷ Plain (Var 1) 0 ∷ Recursive [] (App (Con 46 1) (Var 1) ∷ []) 0 ∷ [];
+        arguments = Plain (Fam (after 0)) 0 ∷ Plain (Var 1) 0 ∷ Recursive [] (App (Con (after 0) 1) (Var 1) ∷ []) 0 ∷ [];
         targets = Var 2 ∷ [];
       }
       ∷ [];
@@ -196,20 +197,20 @@ abbrev pub behind : Signature → List Entry → Signature
 behind S entries = record S { entries = S.entries ++ entries }
 
 abbrev pub Nat : Term
-Nat = Fam 46
+Nat = Fam (after 0)
 
 abbrev pub suc_term : Term → Term
-suc_term n = App (Con 46 1) n
+suc_term n = App (Con (after 0) 1) n
 
 abbrev pub Fin : Term → Term
-Fin n = App (Fam 49) n
+Fin n = App (Fam (after 3)) n
 
 abbrev pub Vec : Term → Term → Term
-Vec a n = App (App (Fam 47) a) n
+Vec a n = App (App (Fam (after 1)) a) n
 
 -- the function itself, in right sides
 abbrev pub own : Term
-own = Const 52
+own = Const (after 6)
 
 abbrev pub draft : (name : List ℕ) (base : ℕ) → (names : List (List ℕ)) → (type body : Term) → Draft
 draft name base names type body = record { entry = Definition name type body; base = base; names = names }

@@ -4,6 +4,7 @@ use Rattle.std.proofs.Common.{◌≡◌, true, false, Ok, [], ◌∷◌, refl}
 use Rattle.theory.specs.Terms.{Term}
 use Rattle.theory.specs.Terms.Term.{Var}
 use Rattle.theory.specs.Telescopes.{Telescope}
+use Rattle.theory.proofs.AfterPrelude.{after}
 use Rattle.core_terms.specs.declared.case_tree.Rule.TheVariants.{SolveRight, Inject, Conflict, Cycle, Delete}
 use Rattle.kernel_reduce.specs.Reduction.{answered}
 use Rattle.unification.specs.States.{Problem}
@@ -20,7 +21,7 @@ in_nat context u v = record { context = context; telescope = item Nat ∷ []; le
 injective : unify_of (sample false) (in_nat (Nat ∷ Nat ∷ []) (suc_term (Var 1)) (suc_term (Var 0))) 10
     ≡ answered
     (Ok (Solved
-    (step 1 (Inject 46 1) Nat (suc_term (Var 1)) (suc_term (Var 0)) ∷ step 1 (SolveRight 0) Nat (Var 1) (Var 0) ∷ [])
+    (step 1 (Inject (after 0) 1) Nat (suc_term (Var 1)) (suc_term (Var 0)) ∷ step 1 (SolveRight 0) Nat (Var 1) (Var 0) ∷ [])
     (Nat ∷ [])
     (Var 0 ∷ Var 0 ∷ [])))
     10
@@ -30,7 +31,7 @@ injective = refl
 -- zero = suc n
 conflicting : unify_of (sample false) (in_nat (Nat ∷ []) zero_term (suc_term (Var 0))) 10
     ≡ answered
-    (Ok (Absurd (step 1 (Conflict 46 0 1) Nat zero_term (suc_term (Var 0)) ∷ []) (Nat ∷ []) zero_term (suc_term (Var 0))))
+    (Ok (Absurd (step 1 (Conflict (after 0) 0 1) Nat zero_term (suc_term (Var 0)) ∷ []) (Nat ∷ []) zero_term (suc_term (Var 0))))
     10
 unfolding native.Mathlib.Decide.ℕ_discrete sample
 conflicting = refl
@@ -55,6 +56,6 @@ deleted = refl
 
 -- zero = zero
 same_constants : unify_of (sample false) (in_nat [] zero_term zero_term) 10
-    ≡ answered (Ok (Solved (step 1 (Inject 46 0) Nat zero_term zero_term ∷ []) [] [])) 10
+    ≡ answered (Ok (Solved (step 1 (Inject (after 0) 0) Nat zero_term zero_term ∷ []) [] [])) 10
 unfolding native.Mathlib.Decide.ℕ_discrete sample
 same_constants = refl

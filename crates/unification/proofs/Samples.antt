@@ -6,6 +6,7 @@ use Rattle.theory.specs.Telescopes.{Telescope, applied}
 use Rattle.theory.specs.Families.{Argument, Plain, Recursive, Constructor, Family}
 use Rattle.theory.specs.Prelude.{prelude}
 use Rattle.theory.specs.Signatures.{Signature, FamilyOf, Definition}
+use Rattle.theory.proofs.AfterPrelude.{after}
 use Rattle.core_terms.specs.CaseTrees.{Step}
 use Rattle.core_terms.specs.declared.case_tree.Rule.{Rule}
 use Rattle.tele_eq.specs.Items.{Item}
@@ -14,83 +15,83 @@ abbrev pub item : Term → Item
 item t = record { type = t; level = 0 }
 
 abbrev pub Nat : Term
-Nat = Fam 46
+Nat = Fam (after 0)
 
 abbrev pub zero_term : Term
-zero_term = Con 46 0
+zero_term = Con (after 0) 0
 
 abbrev pub suc_term : Term → Term
-suc_term n = App (Con 46 1) n
+suc_term n = App (Con (after 0) 1) n
 
 abbrev pub Fin : Term → Term
-Fin n = App (Fam 47) n
+Fin n = App (Fam (after 1)) n
 
 abbrev pub fzero : Term → Term
-fzero n = App (Con 47 0) n
+fzero n = App (Con (after 1) 0) n
 
 abbrev pub fsuc : Term → Term → Term
-fsuc n i = App (App (Con 47 1) n) i
+fsuc n i = App (App (Con (after 1) 1) n) i
 
 abbrev pub Has : Term → Term → Term
-Has n i = App (App (Fam 48) n) i
+Has n i = App (App (Fam (after 2)) n) i
 
 abbrev pub there_term : Term → Term → Term → Term
-there_term n i h = App (App (App (Con 48 1) n) i) h
+there_term n i h = App (App (App (Con (after 2) 1) n) i) h
 
 abbrev pub Box : Term → Term → Term → Term
-Box n i h = App (App (App (Fam 49) n) i) h
+Box n i h = App (App (App (Fam (after 3)) n) i) h
 
 abbrev pub box : Term → Term → Term → Term
-box n i h = App (App (App (Con 49 0) n) i) h
+box n i h = App (App (App (Con (after 3) 0) n) i) h
 
 abbrev pub Vec : Term → Term
-Vec n = App (App (Fam 50) Nat) n
+Vec n = App (App (Fam (after 4)) Nat) n
 
 abbrev pub K : Term → Term → Term
-K n i = App (App (Fam 51) n) i
+K n i = App (App (Fam (after 5)) n) i
 
 abbrev pub k_term : Term → Term → Term
-k_term n i = App (App (Con 51 0) n) i
+k_term n i = App (App (Con (after 5) 0) n) i
 
 abbrev pub W : Term → Term → Term → Term
-W n i k = App (App (App (Fam 52) n) i) k
+W n i k = App (App (App (Fam (after 6)) n) i) k
 
 abbrev pub w_term : Term → Term → Term
-w_term n i = App (App (Con 52 0) n) i
+w_term n i = App (App (Con (after 6) 0) n) i
 
 -- \a. \b. a
 abbrev pub konst : Term → Term → Term
-konst a b = App (App (Const 53) a) b
+konst a b = App (App (Const (after 7)) a) b
 
 abbrev pub D : Term → Term → Term
-D p n = App (App (Fam 54) p) n
+D p n = App (App (Fam (after 8)) p) n
 
 abbrev pub Tk : Term
-Tk = Fam 57
+Tk = Fam (after 11)
 
 abbrev pub Het : Term → Term → Term → Term → Term
-Het A a B b = applied (Fam 58) (A ∷ a ∷ B ∷ b ∷ [])
+Het A a B b = applied (Fam (after 12)) (A ∷ a ∷ B ∷ b ∷ [])
 
 abbrev pub Tree : Term
-Tree = Fam 59
+Tree = Fam (after 13)
 
 abbrev pub node : Term → Term → Term
-node a b = App (App (Con 59 1) a) b
+node a b = App (App (Con (after 13) 1) a) b
 
 -- \a. \b. a, for trees
 abbrev pub first : Term → Term → Term
-first a b = App (App (Const 60) a) b
+first a b = App (App (Const (after 14)) a) b
 
 -- \n. n with 340 constructors suc around it
 abbrev pub add : Term → Term
-add n = App (Const 61) n
+add n = App (Const (after 15)) n
 
 -- \n. suc n
 abbrev pub up : Term → Term
-up n = App (Const 55) n
+up n = App (Const (after 9)) n
 
 abbrev pub one : Term
-one = Const 56
+one = Const (after 10)
 
 abbrev constructor_with : List Argument → (targets : List Term) → Constructor
 constructor_with arguments targets = record { name = []; arguments = arguments; targets = targets }
@@ -188,8 +189,8 @@ sample k = record {
       ∷ FamilyOf w_family
       ∷ Definition [] (Pi Nat (Pi Nat Nat)) (Lam Nat (Lam Nat (Var 1)))
       ∷ FamilyOf d_family
-      ∷ Definition [] (Pi Nat Nat) (Lam Nat (App (Con 46 1) (Var 0)))
-      ∷ Definition [] Nat (App (Con 46 1) (Con 46 0))
+      ∷ Definition [] (Pi Nat Nat) (Lam Nat (App (Con (after 0) 1) (Var 0)))
+      ∷ Definition [] Nat (App (Con (after 0) 1) (Con (after 0) 0))
       ∷ FamilyOf tk_family
       ∷ FamilyOf het_family
       ∷ FamilyOf tree_family

@@ -6,6 +6,7 @@ use Rattle.theory.specs.Terms.{Term, lift}
 use Rattle.theory.specs.Terms.Term.{Var, Sort, Pi, Lam, App, Con}
 use Rattle.theory.specs.Telescopes.{Telescope}
 use Rattle.theory.specs.Signatures.{equation, reflexivity}
+use Rattle.theory.proofs.AfterPrelude.{after}
 use Rattle.core_terms.specs.declared.case_tree.Rule.TheVariants.{SolveRight, SolveLeft, Inject, Conflict, Cycle}
 use Rattle.core_terms.specs.declared.stop.Stop.TheVariants.{Deep}
 use Rattle.kernel_reduce.specs.Reduction.{answered}
@@ -109,7 +110,7 @@ cycle_too_high = refl
 conflict_by_delta : unify_of (sample false) (of_refl (Nat ∷ equation 0 Nat zero_term (up (up (Var 0))) ∷ []) Nat zero_term (up (up (Var 1)))) 100
     ≡ answered
     (Ok (Absurd
-    (step 1 (Conflict 46 0 1) Nat zero_term (suc_term (up (Var 1))) ∷ [])
+    (step 1 (Conflict (after 0) 0 1) Nat zero_term (suc_term (up (Var 1))) ∷ [])
     (Nat ∷ equation 0 Nat zero_term (up (up (Var 0))) ∷ [])
     zero_term
     (up (up (Var 1)))))
@@ -122,7 +123,7 @@ injective : unify_of (sample false)
     (of_refl (Nat ∷ Nat ∷ equation 0 Nat (suc_term (Var 1)) (suc_term (Var 0)) ∷ []) Nat (suc_term (Var 2)) (suc_term (Var 1))) 100
     ≡ answered
     (Ok (Solved
-    (step 1 (Inject 46 1) Nat (suc_term (Var 2)) (suc_term (Var 1))
+    (step 1 (Inject (after 0) 1) Nat (suc_term (Var 2)) (suc_term (Var 1))
     ∷ step 1 (SolveRight 1) Nat (Var 2) (Var 1)
     ∷ step 1 (SolveRight 0) (equation 0 Nat (suc_term (Var 1)) (suc_term (Var 1))) (reflexivity 0 Nat (suc_term (Var 1))) (Var 0)
     ∷ [])
@@ -136,7 +137,7 @@ injective = refl
 by_delta : unify_of (sample false) (of_refl (Nat ∷ equation 0 Nat (up (Var 0)) one ∷ []) Nat (up (Var 1)) one) 100
     ≡ answered
     (Ok (Solved
-    (step 1 (Inject 46 1) Nat (suc_term (Var 1)) (suc_term zero_term)
+    (step 1 (Inject (after 0) 1) Nat (suc_term (Var 1)) (suc_term zero_term)
     ∷ step 1 (SolveLeft 1) Nat (Var 1) zero_term
     ∷ step 1 (SolveRight 0) (equation 0 Nat (up zero_term) one) (reflexivity 0 Nat (up zero_term)) (Var 0)
     ∷ [])
@@ -180,7 +181,7 @@ not_rigid : unify_of (sample false)
     Nat (suc_term (App (Var 2) (Var 1))) (suc_term zero_term)) 100
     ≡ answered
     (Ok (Stuck
-    (step 1 (Inject 46 1) Nat (suc_term (App (Var 2) (Var 1))) (suc_term zero_term) ∷ [])
+    (step 1 (Inject (after 0) 1) Nat (suc_term (App (Var 2) (Var 1))) (suc_term zero_term) ∷ [])
     (Pi Nat Nat ∷ Nat ∷ equation 0 Nat (suc_term (App (Var 1) (Var 0))) (suc_term zero_term) ∷ [])
     (App (Var 2) (Var 1))
     zero_term
@@ -219,8 +220,8 @@ needs_k = refl
 
 -- e : Eq.0 (Nat -> Tk) bk ck: constructors without their arguments are not in conflict
 no_conflict_without_arguments : unify_of (sample false)
-    (of_refl (equation 0 (Pi Nat Tk) (Con 57 1) (Con 57 2) ∷ []) (Pi Nat Tk) (Con 57 1) (Con 57 2)) 100
-    ≡ answered (Ok (Stuck [] (equation 0 (Pi Nat Tk) (Con 57 1) (Con 57 2) ∷ []) (Con 57 1) (Con 57 2) NotRigid)) 99
+    (of_refl (equation 0 (Pi Nat Tk) (Con (after 11) 1) (Con (after 11) 2) ∷ []) (Pi Nat Tk) (Con (after 11) 1) (Con (after 11) 2)) 100
+    ≡ answered (Ok (Stuck [] (equation 0 (Pi Nat Tk) (Con (after 11) 1) (Con (after 11) 2) ∷ []) (Con (after 11) 1) (Con (after 11) 2) NotRigid)) 99
 unfolding native.Mathlib.Decide.ℕ_discrete sample
 no_conflict_without_arguments = refl
 
@@ -231,7 +232,7 @@ heterogeneous : unify_of (sample false)
       telescope =
           record { type = Sort 0; level = 1 } ∷ item (Var 0)
           ∷ record { type = Het (Var 5) (Var 4) (Var 1) (Var 0); level = 1 } ∷ [];
-      left = Var 3 ∷ Var 2 ∷ App (App (Con 58 0) (Var 3)) (Var 2) ∷ [];
+      left = Var 3 ∷ Var 2 ∷ App (App (Con (after 12) 0) (Var 3)) (Var 2) ∷ [];
       right = Var 3 ∷ Var 1 ∷ Var 0 ∷ [];
     }) 100
     ≡ answered (Ok (Stuck [] (Sort 0 ∷ Var 0 ∷ Var 1 ∷ Het (Var 2) (Var 1) (Var 2) (Var 0) ∷ []) (Var 3) (Var 3) NeedsK)) 99
@@ -250,7 +251,7 @@ group_conflict : unify_of (sample false)
     }) 100
     ≡ answered
     (Ok (Absurd
-    (step 2 (Conflict 47 1 0) (Fin (Var 0)) (fsuc (Var 2) (Var 1)) (fzero (Var 4)) ∷ [])
+    (step 2 (Conflict (after 1) 1 0) (Fin (Var 0)) (fsuc (Var 2) (Var 1)) (fzero (Var 4)) ∷ [])
     (Nat ∷ Has (suc_term (Var 0)) (fzero (Var 0)) ∷ Nat ∷ Fin (Var 0) ∷ Has (Var 1) (Var 0) ∷ [])
     (fsuc (Var 2) (Var 1))
     (fzero (Var 4))))
@@ -272,7 +273,7 @@ group_of_three : unify_of (sample false)
     }) 100
     ≡ answered
     (Ok (Solved
-    (step 3 (Inject 48 1) (Has (Var 1) (Var 0)) (there_term (Var 2) (Var 1) (Var 0)) (there_term (Var 6) (Var 5) (Var 4))
+    (step 3 (Inject (after 2) 1) (Has (Var 1) (Var 0)) (there_term (Var 2) (Var 1) (Var 0)) (there_term (Var 6) (Var 5) (Var 4))
     ∷ step 1 (SolveRight 6) Nat (Var 2) (Var 6)
     ∷ step 1 (SolveRight 2) (Fin (Var 5)) (Var 4) (Var 2)
     ∷ step 1 (SolveRight 1) (Has (Var 4) (Var 3)) (Var 2) (Var 1)
@@ -297,7 +298,7 @@ group_behind_a_solution : unify_of (sample false)
     ≡ answered
     (Ok (Solved
     (step 1 (SolveRight 4) Nat (Var 1) (Var 4)
-    ∷ step 2 (Inject 51 0) (K (Var 4) (Var 0)) (k_term (Var 3) (Var 2)) (k_term (Var 3) (Var 1))
+    ∷ step 2 (Inject (after 5) 0) (K (Var 4) (Var 0)) (k_term (Var 3) (Var 2)) (k_term (Var 3) (Var 1))
     ∷ step 1 (SolveRight 1) (Fin (Var 3)) (Var 2) (Var 1)
     ∷ step 1 (SolveRight 0) (W (Var 2) (Var 1) (k_term (Var 2) (Var 1))) (w_term (Var 2) (Var 1)) (Var 0)
     ∷ [])
@@ -314,16 +315,16 @@ normalised : unify_of (sample false)
     (record {
       context = Nat ∷ D (Var 0) (Var 0) ∷ [];
       telescope = item Nat ∷ item (D (Var 2) (Var 0)) ∷ [];
-      left = App (Lam Nat (konst zero_term (Var 0))) (Var 1) ∷ App (Con 54 0) (Var 1) ∷ [];
+      left = App (Lam Nat (konst zero_term (Var 0))) (Var 1) ∷ App (Con (after 8) 0) (Var 1) ∷ [];
       right = Var 1 ∷ Var 0 ∷ [];
     }) 100
     ≡ answered
     (Ok (Solved
     (step 1 (SolveRight 1) Nat zero_term (Var 1)
-    ∷ step 1 (SolveRight 0) (D zero_term zero_term) (App (Con 54 0) zero_term) (Var 0)
+    ∷ step 1 (SolveRight 0) (D zero_term zero_term) (App (Con (after 8) 0) zero_term) (Var 0)
     ∷ [])
     []
-    (zero_term ∷ App (Con 54 0) zero_term ∷ [])))
+    (zero_term ∷ App (Con (after 8) 0) zero_term ∷ [])))
     96
 unfolding native.Mathlib.Decide.ℕ_discrete sample
 normalised = refl

@@ -5,6 +5,7 @@ use Rattle.theory.specs.Terms.{Term}
 use Rattle.theory.specs.Terms.Term.{Var, Pi, Lam, App, Elim}
 use Rattle.theory.specs.Families.{Recursive}
 use Rattle.theory.specs.Signatures.{equation, reflexivity}
+use Rattle.theory.proofs.AfterPrelude.{after}
 use Rattle.unification.specs.States.{State}
 use Rattle.unification.specs.Heights.{start_made}
 use Rattle.unification.specs.Injecting.{injected_state}
@@ -77,7 +78,7 @@ between = record {
   solution = before.solution;
 }
 
-injected : injected_state before 1 46 1 nat_family
+injected : injected_state before 1 (after 0) 1 nat_family
     (record { name = []; arguments = Recursive [] [] 0 ∷ []; targets = [] }) [] (Var 2 ∷ []) (Var 1 ∷ [])
     ≡ between
 injected = refl

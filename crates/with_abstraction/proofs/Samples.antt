@@ -5,21 +5,22 @@ use Rattle.theory.specs.Terms.Term.{Var, App, Fam, Con}
 use Rattle.theory.specs.Families.{Plain, Recursive, Family}
 use Rattle.theory.specs.Prelude.{prelude}
 use Rattle.theory.specs.Signatures.{Signature, FamilyOf}
+use Rattle.theory.proofs.AfterPrelude.{after}
 
 abbrev pub Nat : Term
-Nat = Fam 46
+Nat = Fam (after 0)
 
 abbrev pub zero_term : Term
-zero_term = Con 46 0
+zero_term = Con (after 0) 0
 
 abbrev pub suc_term : Term → Term
-suc_term n = App (Con 46 1) n
+suc_term n = App (Con (after 0) 1) n
 
 abbrev pub Fin : Term → Term
-Fin n = App (Fam 47) n
+Fin n = App (Fam (after 1)) n
 
 abbrev pub Has : Term → Term → Term
-Has n i = App (App (Fam 48) n) i
+Has n i = App (App (Fam (after 2)) n) i
 
 abbrev pub nat_family : Family
 nat_family = record {
@@ -51,7 +52,7 @@ has_family = record {
   indices = (Nat, 0) ∷ (Fin (Var 0), 0) ∷ [];
   level = 0;
   constructors =
-      record { name = []; arguments = Plain Nat 0 ∷ []; targets = suc_term (Var 0) ∷ App (Con 47 0) (Var 0) ∷ [] } ∷ [];
+      record { name = []; arguments = Plain Nat 0 ∷ []; targets = suc_term (Var 0) ∷ App (Con (after 1) 0) (Var 0) ∷ [] } ∷ [];
 }
 
 unfoldable pub sample : (k : Bool) → Signature

@@ -1,7 +1,7 @@
 -- The own walks of the clauses of a function, one after the other: each is followed by its dots and by its right side, or by its scrutinee,
 -- the helper that the abstraction over it opens, and the clauses inside.
 use Rattle.std.specs.Prelude.{ℕ, ◌+◌, ◌-◌, Bool, true, false, nat_lt, cond, List, [], ◌∷◌, ◌++◌, length, map, take, drop, reverse, Result, Ok, Err}
-use Rattle.theory.specs.Terms.{Term, Var, Sort, Const}
+use Rattle.theory.specs.Terms.{Term, Var, Sort, Const, top}
 use Rattle.theory.specs.Substitutions.{inst}
 use Rattle.theory.specs.Telescopes.{Telescope, products, applied}
 use Rattle.theory.specs.Signatures.{Signature}
@@ -25,7 +25,7 @@ use Rattle.clause_reports.specs.elaboration.Refusals.{Owner, owner_of, OfDot, Of
 
 -- the greatest level of a function or helper: up to it, the entries that are generated for one have a type
 abbrev pub greatest_level : ℕ
-greatest_level = 12
+greatest_level = top - 3
 
 -- ---- the data of a walk
 

@@ -1,7 +1,7 @@
 -- The generated entry with a name, looked for in a list part by part.
-use Rattle.std.proofs.Common.{◌≡◌, ℕ, zero, suc, ◌+◌, ◌-◌, ◌<◌, ◌≤◌, Bool, true, false, cond, ◌&&◌, Option, Some, None, option_map, List, [], ◌∷◌, ◌++◌, bytes_eq, length, drop, slice_get, flat_map, refl, sym, ap, ◌∙◌, arith, append_assoc}
-use Rattle.theory.specs.Terms.{top}
+use Rattle.std.proofs.Common.{◌≡◌, ◌≢◌, ℕ, zero, suc, ◌+◌, ◌<◌, ◌≤◌, nat_lt, le_refl, Bool, true, false, cond, ◌&&◌, Option, Some, None, option_map, List, [], ◌∷◌, ◌++◌, bytes_eq, length, drop, slice_get, flat_map, refl, sym, ap, ◌∙◌, arith, append_assoc}
 use Rattle.theory.specs.Signatures.{Entry}
+use Rattle.std.proofs.lemmas.Bool.Decides.{nat_tests}
 use Rattle.std.proofs.lemmas.List.{drop_all}
 use Rattle.std.specs.Option.{option_or}
 use Rattle.std.specs.List.{filter, range_with_len, find as first_in}
@@ -31,25 +31,41 @@ found_append name (g ∷ xs) ys = found_cons name g (xs ++ ys) ∙ by (is_genera
     by true e = refl
     by false e = e
 
--- ---- levels
+-- ---- numbers
 
-from-level : (name : List ℕ) (f : ℕ → List Generated) (m : ℕ) → m < top
-    → found_in name (flat_map f (range_with_len m (top - m)))
-    ≡ option_or (found_in name (f m)) (found_in name (flat_map f (range_with_len (m + 1) (top - (m + 1)))))
-from-level name f m lt =
-    let e : top - m ≡ suc (top - (m + 1)) = omega arith in
-    ap (λ k. found_in name (flat_map f (range_with_len m k))) e ∙ found_append name (f m) (flat_map f (range_with_len (m + 1) (top - (m + 1))))
+-- none of the lists has the name
+pub none-among : (name : List ℕ) (f : ℕ → List Generated) (from k : ℕ) → ((j : ℕ) → from ≤ j → j < from + k → found_in name (f j) ≡ None)
+    → found_in name (flat_map f (range_with_len from k)) ≡ None
+none-among name f from zero none = refl
+none-among name f from (suc k) none =
+    found_append name (f from) (flat_map f (range_with_len (from + 1) k))
+    ∙ (ap (λ o. option_or o (found_in name (flat_map f (range_with_len (from + 1) k)))) (none from (le_refl from) (omega arith))
+    ∙ none-among name f (from + 1) k (λ j le lt. none j (omega arith) (omega arith)))
 
-pub level-found : (name : List ℕ) (f : ℕ → List Generated) (m : ℕ) (g : code.Generated) → m < top → found_in name (f m) ≡ Some g
-    → Some g ≡ found_in name (flat_map f (range_with_len m (top - m)))
-level-found name f m g lt e =
-    sym (from-level name f m lt ∙ ap (λ o. option_or o (found_in name (flat_map f (range_with_len (m + 1) (top - (m + 1)))))) e)
+or-none : (o : Option code.Generated) → option_or o None ≡ o
+or-none None = refl
+or-none (Some g) = refl
 
-pub level-missed : (name : List ℕ) (f : ℕ → List Generated) (m : ℕ) (r : Option code.Generated) → m < top → found_in name (f m) ≡ None
-    → r ≡ found_in name (flat_map f (range_with_len (m + 1) (top - (m + 1))))
-    → r ≡ found_in name (flat_map f (range_with_len m (top - m)))
-level-missed name f m r lt e is =
-    is ∙ sym (from-level name f m lt ∙ ap (λ o. option_or o (found_in name (flat_map f (range_with_len (m + 1) (top - (m + 1)))))) e)
+-- none but the list of number m has it
+pub one-among : (name : List ℕ) (f : ℕ → List Generated) (m from k : ℕ) → ((j : ℕ) → from ≤ j → j < from + k → j ≢ m → found_in name (f j) ≡ None)
+    → from ≤ m → m < from + k → found_in name (flat_map f (range_with_len from k)) ≡ found_in name (f m)
+one-among name f m from zero others le lt = absurd (omega arith)
+one-among name f m from (suc k) others le lt =
+    found_append name (f from) (flat_map f (range_with_len (from + 1) k))
+    ∙ by (nat_lt from m) refl
+    (λ next. one-among name f m (from + 1) k (λ j le lt ne. others j (omega arith) (omega arith) ne) next (omega arith))
+  where
+    rest : Option code.Generated
+    rest = found_in name (flat_map f (range_with_len (from + 1) k))
+
+    by : (c : Bool) → nat_lt from m ≡ c → (from + 1 ≤ m → rest ≡ found_in name (f m)) → option_or (found_in name (f from)) rest ≡ found_in name (f m)
+    by true is later =
+        let less : from < m = grind (arith, nat_tests) in
+        ap (λ o. option_or o rest) (others from (le_refl from) (omega arith) (λ e. omega arith)) ∙ later (omega arith)
+    by false is later =
+        let same : from ≡ m = grind (arith, nat_tests) in
+        let nothing : rest ≡ None = none-among name f (from + 1) k (λ j le lt. others j (omega arith) (omega arith) (λ e. omega arith)) in
+        ap (option_or (found_in name (f from))) nothing ∙ (or-none (found_in name (f from)) ∙ ap (λ j. found_in name (f j)) same)
 
 -- ---- entries
 

@@ -1,8 +1,10 @@
 -- Generated entries, found by their names.
-use Rattle.std.specs.Prelude.{ℕ, Bool, false, Option, Some, None, option_map, List, [], ◌∷◌, bytes_eq}
+use Rattle.std.specs.Prelude.{ℕ, nat_lt, Bool, false, cond, ◌&&◌, Option, Some, None, option_map, option_and_then, List, [], ◌∷◌, bytes_eq, codes}
 use Rattle.std.specs.List.{filter, find as first_in}
+use Rattle.theory.specs.Terms.{top}
 use Rattle.theory.specs.Families.{Family}
 use Rattle.theory.specs.Signatures.{Entry}
+use Rattle.core_text.specs.SymbolLookup.{number_at_end, before_end}
 use Rattle.clause_reports.specs.Generated as pure
 use Rattle.clause_reports.specs.Generated.{Generated, is_generated, name_of, of_entry}
 use Rattle.drafts.specs.declared.draft_entering.generated.Generated as code
@@ -43,3 +45,13 @@ of_number n (Some e) = of_entry n e
 abbrev pub goes_on : Option (List ℕ) → (rest : List ℕ) → Bool
 goes_on None rest = false
 goes_on (Some left) rest = bytes_eq rest left
+
+-- the level that the name ends with, if it ends with one; a generated entry that has a level has this one
+abbrev pub level_of : List ℕ → Option ℕ
+level_of name = option_and_then (λ p. cond (nat_lt p.1 top) (Some p.1) None) (number_at_end name)
+
+-- the levels i and m where the name ends like Eq.i!left.m
+abbrev pub left_levels : List ℕ → Option (ℕ × ℕ)
+left_levels name =
+    option_and_then (λ p. option_and_then (λ identity. option_and_then (λ q. cond (nat_lt q.1 top && nat_lt p.1 top) (Some (q.1, p.1)) None)
+    (number_at_end identity)) (before_end (codes "!left.") p.0)) (number_at_end name)

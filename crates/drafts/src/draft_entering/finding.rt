@@ -1,9 +1,9 @@
-ghost use Rattle.std.specs.Prelude.{◌≡◌, ◌≤◌, ◌<◌, ◌+◌, ◌-◌, ◌^◌, Ok, flat_map, length, map, option_map, slice_get};
+ghost use Rattle.std.specs.Prelude.{◌≡◌, ◌<◌, ◌+◌, ◌^◌, ◌∷◌, [], Ok, IfSome, flat_map, length, option_map, slice_get};
 ghost use Rattle.std.specs.List.{range_with_len};
 ghost use Rattle.clause_reports.specs.Generated as pure;
 ghost use Rattle.core_sig.specs.Meanings.{entry_of, family_of};
 ghost use Rattle.core_terms.specs.Answers.{Gives};
-ghost use Rattle.drafts.specs.draft_entering.FoundNames.{confusions, courses, found_in, numbers_of, of_number};
+ghost use Rattle.drafts.specs.draft_entering.FoundNames.{confusions, courses, found_in, left_levels, level_of, numbers_of, of_number};
 ghost use Rattle.generators.specs.noconf_gen.NoConfusionTypes as noconf;
 ghost use Rattle.theory.specs.Signatures.{FamilyOf};
 ghost use Rattle.theory.specs.Terms.{top};
@@ -12,6 +12,7 @@ use crate::draft_entering::Generated;
 use crate::draft_entering::spelling::{after, is_constructors, is_left, is_marked, is_spelled};
 use core_sig::{Entry, Family, Signature};
 use core_terms::{Stop, TOP, number_of};
+use core_text::{before_end, number_at_end};
 
 /// Case analysis or course-of-values recursion of a family at a level, by its name.
 #[tactic(auto, using(crate::proofs::draft_entering::FoundAmong::found_cons))]
@@ -107,18 +108,23 @@ fn found_at(n: u32, f: &Family, count: u32, m: u8, name: &[u8]) -> Option<Genera
     }
 }
 
-/// The generated entry of a family of `count` constructors from a level on, by its name.
-fn found_from(n: u32, f: &Family, count: u32, m: u8, name: &[u8]) -> Option<Generated>
-    requires m { m ≤ top }
-    requires count { count ≡ length f.now.cons }
-    ensures { result ≡ found_in name.now (flat_map (pure.at_level n (family_of f.now)) (range_with_len m (top - m))) }
+/// The level that the name ends with. The name of a generated entry ends with its level, if it has one.
+fn level_at_end(name: &[u8]) -> Option<u8>
+    ensures level { result ≡ level_of name.now }
+    ensures low { IfSome result (λ m. m < top) }
 {
-    if m >= TOP {
-        return None;
-    }
-    match found_at(n, f, count, m, name) {
-        Some(found) => Some(found),
-        None => found_from(n, f, count, m + 1, name),
+    let (_, level) = number_at_end(name)?;
+    if level < TOP { Some(level) } else { None }
+}
+
+/// The generated entry of a family of `count` constructors at the level that its name ends with.
+fn found_at_own_level(n: u32, f: &Family, count: u32, name: &[u8]) -> Option<Generated>
+    requires count { count ≡ length f.now.cons }
+    ensures { result ≡ found_in name.now (flat_map (pure.at_level n (family_of f.now)) pure.levels) }
+{
+    match level_at_end(name) {
+        Some(m) => found_at(n, f, count, m, name),
+        None => None,
     }
 }
 
@@ -136,7 +142,7 @@ fn found_of_family(n: u32, f: &Family, count: u32, name: &[u8]) -> Option<Genera
             return Some(Generated::Acyclic(n));
         }
     }
-    found_from(n, f, count, 0, name)
+    found_at_own_level(n, f, count, name)
 }
 
 /// The generated entry of a family, by its name. Names that do not begin with that of the family are passed over.
@@ -163,33 +169,41 @@ fn found_of_entry(n: u32, entry: &Entry, name: &[u8]) -> Result<Option<Generated
     }
 }
 
-/// Elimination of an equation of `Eq.i` by its left side, from a level on, by its name.
+/// Elimination of an equation of `Eq.i` by its left side at a level, by its name.
 #[tactic(auto, using(crate::proofs::draft_entering::FoundAmong::found_cons))]
-fn left_from(i: u8, m: u8, name: &[u8]) -> Option<Generated>
+fn left_at(i: u8, m: u8, name: &[u8]) -> Option<Generated>
     requires i { i < top }
-    requires m { m ≤ top }
-    ensures { result ≡ found_in name.now (map (pure.Left i) (range_with_len m (top - m))) }
+    requires m { m < top }
+    ensures { result ≡ found_in name.now (pure.Left i m ∷ []) }
 {
-    if m >= TOP {
-        return None;
-    }
     if i.max(m + 1) < TOP && is_left(name, i, m) {
         return Some(Generated::Left(i, m));
     }
-    left_from(i, m + 1, name)
+    None
 }
 
-/// Elimination of an equation by its left side, for the identity families from a level on, by its name.
-fn identity_from(i: u8, name: &[u8]) -> Option<Generated>
-    requires { i ≤ top }
-    ensures { result ≡ found_in name.now (flat_map (λ i. map (pure.Left i) pure.levels) (range_with_len i (top - i))) }
+/// The levels i and m where the name ends like `Eq.i!left.m`.
+fn left_levels(name: &[u8]) -> Option<(u8, u8)>
+    ensures levels { result ≡ left_levels name.now }
+    ensures low { IfSome result (λ p. (p.0 < top) × (p.1 < top)) }
 {
-    if i >= TOP {
-        return None;
+    let (front, m) = number_at_end(name)?;
+    let identity = before_end(b"!left.", front)?;
+    let (_, i) = number_at_end(identity)?;
+    if i < TOP && m < TOP {
+        Some((i, m))
+    } else {
+        None
     }
-    match left_from(i, 0, name) {
-        Some(found) => Some(found),
-        None => identity_from(i + 1, name),
+}
+
+/// Elimination of an equation by its left side, by its name.
+fn found_left(name: &[u8]) -> Option<Generated>
+    ensures { result ≡ found_in name.now pure.of_identities }
+{
+    match left_levels(name) {
+        Some((i, m)) => left_at(i, m, name),
+        None => None,
     }
 }
 
@@ -215,5 +229,5 @@ pub fn generated_by(sig: &Signature, name: &[u8]) -> Result<Option<Generated>, S
         }
         at += 1;
     }
-    Ok(identity_from(0, name))
+    Ok(found_left(name))
 }

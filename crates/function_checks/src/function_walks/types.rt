@@ -6,11 +6,11 @@ ghost use Rattle.function_checks.specs.function_refusals.RefusalMeanings.{Tells}
 
 use crate::function_refusals::{FunctionRefusal, WrittenPart, level_too_high};
 use core_sig::Signature;
-use core_terms::{Items, Stop, Tele, Term, copy_whole};
+use core_terms::{Items, Stop, TOP, Tele, Term, copy_whole};
 use std::alloc::Global;
 
 /// The greatest level of a function or helper: up to it, the entries that are generated for one have a type.
-pub const GREATEST_LEVEL: u8 = 12;
+pub const GREATEST_LEVEL: u8 = TOP - 3;
 
 /// Types, followed by those of a number of products.
 #[tactic(auto, using(tele_eq::proofs::Growing::growing))]

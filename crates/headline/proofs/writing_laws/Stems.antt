@@ -1,14 +1,15 @@
 -- Names of the families of the prelude, and of what is generated for a family.
-use Rattle.std.proofs.Common.{◌≡◌, inl, inr, ℕ, zero, suc, ◌+◌, ◌<◌, ◌&&◌, Bool, true, false, List, [], ◌∷◌, ◌++◌, length, refl, sym, ap₂, ◌∙◌, subst, append_assoc, arith}
+use Rattle.std.proofs.Common.{◌≡◌, inl, inr, ℕ, zero, suc, ◌+◌, ◌/◌, ◌%◌, ◌<◌, ◌≤◌, nat_lt, cond, ◌&&◌, Bool, true, false, List, [], ◌∷◌, ◌++◌, length, refl, sym, ap₂, ◌∙◌, subst, append_assoc, arith}
 use Rattle.std.specs.Prelude.{◌==◌, nat_le, codes, decimal}
 use Rattle.std.specs.Str.{is_utf8, chars}
+use Rattle.std.proofs.lemmas.Bool.Decides.{nat_tests}
 use Rattle.std.proofs.lemmas.Str.{IsUtf8-from_is_utf8, chars-append}
 use Rattle.unicode_ident.proofs.Computing.{unicode_ident}
 use lib.Utf8.{encode}
 use Rattle.theory.specs.Terms.{top}
 use Rattle.theory.specs.PreludeFamilies.{level_text}
 use Rattle.core_sig.specs.Drafts.{generated_name}
-use Rattle.surface_syntax.specs.Spelling.{byte_len, is_keyword}
+use Rattle.surface_syntax.specs.Spelling.{byte_len, is_digit, is_keyword}
 use Rattle.surface_syntax.specs.Tokens.{IsName, letter, IsNumber, naught, digits, Spells, plain, dotted}
 use Rattle.surface_syntax.specs.declared.token.TokenKind.TheVariants.{Plain, Dotted}
 use Rattle.core_text.specs.NameRuns.{are_name_chars}
@@ -26,27 +27,52 @@ pub record IsLevelText (text : List ℕ) : Type 0 where
   pub short : nat_le (length text) 2 ≡ true
   pub unmarked : holds_mark text ≡ false
 
-level-small : (i : ℕ) → i < top → IsLevelText (level_text i)
+-- a text of characters of names is a text
+left-of : (a b : Bool) → (a && b) ≡ true → a ≡ true
+left-of true b e = refl
+left-of false b e = e
+
+utf8 : (t : List ℕ) → are_name_chars t ≡ true → is_utf8 t ≡ true
+utf8 t e = left-of (is_utf8 t) _ e
+
+level-digit : (d : ℕ) → d < 10 → IsLevelText ((48 + d) ∷ [])
 unfolding is_utf8 chars unicode_ident encode
-level-small zero lt = record { all_chars = refl; read = refl; number = naught; short = refl; unmarked = refl }
-level-small (suc zero) lt = record { all_chars = refl; read = refl; number = digits refl refl; short = refl; unmarked = refl }
-level-small (suc (suc zero)) lt = record { all_chars = refl; read = refl; number = digits refl refl; short = refl; unmarked = refl }
-level-small (suc (suc (suc zero))) lt = record { all_chars = refl; read = refl; number = digits refl refl; short = refl; unmarked = refl }
-level-small (suc (suc (suc (suc zero)))) lt = record { all_chars = refl; read = refl; number = digits refl refl; short = refl; unmarked = refl }
-level-small (suc (suc (suc (suc (suc zero))))) lt = record { all_chars = refl; read = refl; number = digits refl refl; short = refl; unmarked = refl }
-level-small (suc (suc (suc (suc (suc (suc zero)))))) lt = record { all_chars = refl; read = refl; number = digits refl refl; short = refl; unmarked = refl }
-level-small (suc (suc (suc (suc (suc (suc (suc zero))))))) lt = record { all_chars = refl; read = refl; number = digits refl refl; short = refl; unmarked = refl }
-level-small (suc (suc (suc (suc (suc (suc (suc (suc zero)))))))) lt = record { all_chars = refl; read = refl; number = digits refl refl; short = refl; unmarked = refl }
-level-small (suc (suc (suc (suc (suc (suc (suc (suc (suc zero))))))))) lt = record { all_chars = refl; read = refl; number = digits refl refl; short = refl; unmarked = refl }
-level-small (suc (suc (suc (suc (suc (suc (suc (suc (suc (suc zero)))))))))) lt = record { all_chars = refl; read = refl; number = digits refl refl; short = refl; unmarked = refl }
-level-small (suc (suc (suc (suc (suc (suc (suc (suc (suc (suc (suc zero))))))))))) lt = record { all_chars = refl; read = refl; number = digits refl refl; short = refl; unmarked = refl }
-level-small (suc (suc (suc (suc (suc (suc (suc (suc (suc (suc (suc (suc zero)))))))))))) lt = record { all_chars = refl; read = refl; number = digits refl refl; short = refl; unmarked = refl }
-level-small (suc (suc (suc (suc (suc (suc (suc (suc (suc (suc (suc (suc (suc zero))))))))))))) lt = record { all_chars = refl; read = refl; number = digits refl refl; short = refl; unmarked = refl }
-level-small (suc (suc (suc (suc (suc (suc (suc (suc (suc (suc (suc (suc (suc (suc zero)))))))))))))) lt = record { all_chars = refl; read = refl; number = digits refl refl; short = refl; unmarked = refl }
-level-small (suc (suc (suc (suc (suc (suc (suc (suc (suc (suc (suc (suc (suc (suc (suc i))))))))))))))) lt = absurd (omega arith)
+level-digit zero lt = record { all_chars = refl; read = refl; number = naught; short = refl; unmarked = refl }
+level-digit (suc zero) lt = record { all_chars = refl; read = refl; number = digits refl refl; short = refl; unmarked = refl }
+level-digit (suc (suc zero)) lt = record { all_chars = refl; read = refl; number = digits refl refl; short = refl; unmarked = refl }
+level-digit (suc (suc (suc zero))) lt = record { all_chars = refl; read = refl; number = digits refl refl; short = refl; unmarked = refl }
+level-digit (suc (suc (suc (suc zero)))) lt = record { all_chars = refl; read = refl; number = digits refl refl; short = refl; unmarked = refl }
+level-digit (suc (suc (suc (suc (suc zero))))) lt = record { all_chars = refl; read = refl; number = digits refl refl; short = refl; unmarked = refl }
+level-digit (suc (suc (suc (suc (suc (suc zero)))))) lt = record { all_chars = refl; read = refl; number = digits refl refl; short = refl; unmarked = refl }
+level-digit (suc (suc (suc (suc (suc (suc (suc zero))))))) lt = record { all_chars = refl; read = refl; number = digits refl refl; short = refl; unmarked = refl }
+level-digit (suc (suc (suc (suc (suc (suc (suc (suc zero)))))))) lt = record { all_chars = refl; read = refl; number = digits refl refl; short = refl; unmarked = refl }
+level-digit (suc (suc (suc (suc (suc (suc (suc (suc (suc zero))))))))) lt = record { all_chars = refl; read = refl; number = digits refl refl; short = refl; unmarked = refl }
+level-digit (suc (suc (suc (suc (suc (suc (suc (suc (suc (suc d)))))))))) lt = absurd (omega arith)
+
+digit-is : (d : ℕ) → d < 10 → is_digit (48 + d) ≡ true
+digit-is d lt = grind (arith, nat_tests)
+
+two-digits : (a b : ℕ) → 1 ≤ a → a < 10 → b < 10 → IsLevelText ((48 + a) ∷ (48 + b) ∷ [])
+two-digits a b some less low =
+    let first = level-digit a less in
+    let second = level-digit b low in
+    let apart : ((48 + a) == 48) ≡ false = grind (arith, nat_tests) in
+    record {
+      all_chars = chars-join ((48 + a) ∷ []) ((48 + b) ∷ []) first.all_chars second.all_chars;
+      read =
+          chars-append ((48 + a) ∷ []) ((48 + b) ∷ []) (IsUtf8-from_is_utf8 ((48 + a) ∷ []) (utf8 ((48 + a) ∷ []) first.all_chars))
+          ∙ ap₂ (λ x y. x ++ y) first.read second.read;
+      number = digits apart (ap₂ (λ x y. x && (y && true)) (digit-is a less) (digit-is b low));
+      short = refl;
+      unmarked = unmarked-join ((48 + a) ∷ []) ((48 + b) ∷ []) first.unmarked second.unmarked;
+    }
 
 pub level-is : (i : ℕ) → i < top → IsLevelText (level_text i)
-level-is i lt = level-small i lt
+level-is i lt = by (nat_lt i 10) refl
+  where
+    by : (c : Bool) → nat_lt i 10 ≡ c → IsLevelText (cond c ((48 + i) ∷ []) ((48 + i / 10) ∷ (48 + i % 10) ∷ []))
+    by true e = let one : i < 10 = grind (arith, nat_tests) in level-digit i one
+    by false e = let more : 10 ≤ i = grind (arith, nat_tests) in two-digits (i / 10) (i % 10) (omega arith) (omega arith) (omega arith)
 
 -- ---- stems of the prelude
 
@@ -65,13 +91,6 @@ dotted-stem word name other within all read i lt =
       kind = inr refl;
       spelled = subst (λ cs. Spells Dotted cs true) (sym whole) (subst (λ b. Spells Dotted (word ++ 46 ∷ level_text i) b) fits (dotted name other level.number));
     }
-  where
-    left-of : (a b : Bool) → (a && b) ≡ true → a ≡ true
-    left-of true b e = refl
-    left-of false b e = e
-
-    utf8 : (t : List ℕ) → are_name_chars t ≡ true → is_utf8 t ≡ true
-    utf8 t e = left-of (is_utf8 t) _ e
 
 pub equality-stem : (i : ℕ) → i < top → IsStem (codes "Eq." ++ level_text i)
 unfolding is_utf8 chars unicode_ident encode

@@ -25,10 +25,7 @@ fn is_family(sig: &Signature, n: u32) -> bool
 }
 
 fn units() -> Units {
-    Units {
-        left: 1000,
-        spent: 0,
-    }
+    Units::new(1000)
 }
 
 fn is_too_high(answer: &Result<u32, FamilyStop>) -> bool {

@@ -28,7 +28,7 @@ fn can_reduce(sig: &Signature, t: &Term) -> bool
 fn units(left: u64) -> Units
     ensures { result.left ≡ left }
 {
-    Units { left, spent: 0 }
+    Units::new(left)
 }
 
 /// The head form of a term with so many units.

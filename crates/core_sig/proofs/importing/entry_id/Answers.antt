@@ -1,4 +1,4 @@
-use Rattle.std.proofs.Common.{length, map, sym, ◌∙◌, subst}
+use Rattle.std.proofs.Common.{map, sym, ◌∙◌, subst}
 use Rattle.std.proofs.lemmas.List.{length-map}
 use Rattle.core_sig.specs.EntryIds.{AreLowBehind, CanStand}
 use Rattle.core_sig.specs.Kinds.{HasEntryKinds}

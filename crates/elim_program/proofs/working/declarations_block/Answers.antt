@@ -1,9 +1,9 @@
 use Rattle.std.proofs.Common.{◌≡◌, Ok, map, ap, subst, ◌∙◌, false}
 use Rattle.theory.specs.Prelude.{prelude}
 use Rattle.surface_syntax.specs.TreeMeanings.{decl_of}
-use Rattle.elim_program.specs.Counting.{Counted}
+use Rattle.elim_program.specs.Counting.{Counted, Refuses}
 use Rattle.elim_program.specs.Works as spec
-use Rattle.elim_program.proofs.NewSessions.{counted-in-new}
+use Rattle.elim_program.proofs.NewSessions.{counted-in-new, refused-in-new}
 use Rattle.elim_program.proofs.working.declarations_block.Goals as goal
 
 -- src/working.rt:53:1
@@ -13,3 +13,10 @@ returns-in-Ok-Ok c =
     let meant = spec.worked s.session.fuel s.session.signature (map decl_of c.args.decls.now) in
     let counted = subst (λ r. Counted (Ok r) (meant c.none_counted.result)) c.in-Ok-Ok.field-0-is c.in-Ok-Ok.ensures in
     counted-in-new c.args.work.count s.session.fuel c.args.work.fuel s.session.signature (prelude false) (map decl_of c.args.decls.now) spec.none_counted c.in-Ok-Ok.counts c.summary.result s.ensures.fuel s.ensures.signature (counted ∙ ap meant c.none_counted.ensures) c.summary.ensures
+
+pub returns-in-Ok-Err : goal.returns-in-Ok-Err
+returns-in-Ok-Err c =
+    let s = c.in_ok-session in
+    let meant = spec.worked s.session.fuel s.session.signature (map decl_of c.args.decls.now) in
+    let counted = subst (λ r. Counted (Ok r) (meant c.none_counted.result)) c.in-Ok-Err.field-0-is c.in-Ok-Err.ensures in
+    refused-in-new c.args.work.count s.session.fuel c.args.work.fuel s.session.signature (prelude false) (map decl_of c.args.decls.now) spec.none_counted c.in-Ok-Err.block s.ensures.fuel s.ensures.signature (subst (Refuses c.in-Ok-Err.block) (ap meant c.none_counted.ensures) counted)

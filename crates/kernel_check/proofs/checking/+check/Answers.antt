@@ -1,24 +1,33 @@
-use Rattle.std.proofs.Common.{◌+◌, ◌-◌, true, [], ◌∷◌, ◌∙◌, inl, inr, refl, ap, sym, Ok, Err, subst as transport, arith}
+use Rattle.std.proofs.Common.{◌≤◌, ◌+◌, ◌-◌, true, [], ◌∷◌, ◌∙◌, inl, inr, refl, ap, sym, Ok, Err, subst as transport, arith}
 use Rattle.std.proofs.lemmas.Result.{err_from_is_err_and}
-use Rattle.theory.specs.Terms.{Pi, Lam, subst as put}
+use Rattle.theory.specs.Terms.{Var, Pi, Lam, App, height, subst as put}
+use Rattle.theory.specs.Substitutions.{fill, inst, ups}
 use Rattle.core_terms.specs.Verdicts.{Yes}
+use Rattle.core_terms.specs.declared.stop.Stop.TheVariants.{Deep}
 use Rattle.kernel_reduce.specs.Reduction.{answered}
+use Rattle.term_pool.specs.Instantiation.{trees_of}
 use Rattle.term_pool.specs.Nodes.{says, AllPass}
 use Rattle.term_pool.specs.Parts.{IsPart}
 use Rattle.core_sig.proofs.StandingEntries.{stands-stay}
 use Rattle.store_reduce.proofs.Adding.{adds-parts, lacks-parts}
 use Rattle.store_reduce.specs.Formed.{IsFormedPart}
+use Rattle.store_reduce.proofs.FormedParts.{first-formed}
 use Rattle.kernel_check.specs.Checking.{infer_of, infer_sort_of, check_of, infer_form, apply_product, reduced_product}
 use Rattle.kernel_check.specs.Decided as decided
 use Rattle.kernel_check.specs.Decided.{Decides}
+use Rattle.kernel_check.specs.Applications.{IsAppliedPart}
+use Rattle.kernel_check.specs.Opened.{Opens, filled_tree}
 use Rattle.kernel_check.specs.Asked.{IsArgumentPart, IsCheckedPart}
 use Rattle.kernel_check.specs.Scopes.{CanCheckIn, scope_in}
 use Rattle.kernel_check.specs.declared.verdict.VerdictIn.TheVariants.{No}
-use Rattle.kernel_check.proofs.CheckedAdding.{checked-before, argument-before, applied-before}
-use Rattle.kernel_check.proofs.CheckedAnswers.{product-then, function-then, body-then, application-then, applied-then, local-then, value-then, sort-then, check-then, at-then, codomain-then, apply-other, infer-none, sort-none, check-none, sort-is, check-is, infer-is, infer-fuel, form-leaf, product_of-product, product_of-then, product_of-refused, reduced-product, reduced-other, reduced-yes, rest-then, rest-refused}
-use Rattle.kernel_check.proofs.CheckedParts.{domain-part, codomain-part, argument_type-part, body-part, function-part, value_type-part, value-part, rest-part, applied-part, function_type-part, itself-part, leaf-part, way-part, against-part, finds-by, head-formed, way-formed, product-formed}
-use Rattle.kernel_check.proofs.Conditions.{behind-yes, can-kept_of, can-kept_id, can-kept_as, can-fewer, can-domain, can-codomain, can-argument_type, can-body, can-head, can-function, can-argument, can-value_type, can-value, can-rest, can-indices, can-reduce, can-compare, can-inferred, can-product, pair-kept, let-kept}
+use Rattle.kernel_check.proofs.CheckedAdding.{against-before, checked-before, argument-before, applied-before}
+use Rattle.kernel_check.proofs.CheckedAnswers.{application-is, argument-same, typed-same, product-then, function-then, body-then, application-then, applied-then, local-then, value-then, sort-then, check-then, at-then, codomain-then, apply-other, infer-none, sort-none, check-none, sort-is, check-is, infer-is, infer-fuel, form-leaf, product_of-product, product_of-then, product_of-refused, reduced-product, reduced-other, reduced-yes, rest-then, rest-refused}
+use Rattle.kernel_check.proofs.CheckedParts.{type-part, domain-part, codomain-part, argument_type-part, body-part, function-part, value_type-part, value-part, rest-part, applied-part, function_type-part, itself-part, leaf-part, way-part, against-part, finds-by, head-formed, way-formed, product-formed}
+use Rattle.kernel_check.proofs.Conditions.{behind-yes, can-kept_of, can-kept_id, can-kept_as, can-fewer, can-domain, can-codomain, can-argument_type, can-body, can-head, can-function, can-argument, can-value_type, can-value, can-rest, can-indices, can-inner, can-reduce, can-compare, can-inferred, can-product, pair-kept, let-kept}
 use Rattle.kernel_check.proofs.Deciding.{decided as decided-by, decided-denied, decided-deep, decided-free, decided-fuel, decided-made, decides-behind, denied-by, found, goes-after, goes-on, meant-as, more-of, refused, spent-before, stopped, yes-given, yes-now}
+use Rattle.kernel_check.proofs.Filling.{codomain-kept, found-low, will_fill, will_fill-kept}
+use Rattle.kernel_check.proofs.Opening.{denied-open, found-open, opens-after, opens-as, opens-behind, opens-denial, opens-filled, opens-more, opens-plain, opens-refusal, opens-spent, refused-open}
+use Rattle.kernel_check.proofs.TypedAnswers.{typed-low}
 use Rattle.kernel_check.proofs.LiveScopes.{live-kept, scope-kept, can-kept}
 use Rattle.kernel_check.proofs.checking.+check.Goals as goal
 
@@ -281,18 +290,130 @@ infer_body-returns-in-Yes g t c =
     (behind-yes 1 (infer_of c.args.sig.now c.args.room ((old.tree c.args.a) ∷ G) (old.tree c.args.b) c.args.units.now.left) (mid.tree c.in-Yes.ty) _ y.answer))
     (e.trees _ c.requires.a_live))
 
-pub infer_application-infer_at-requires : goal.infer_application-infer_at-requires
-infer_application-infer_at-requires g t c =
-    λ κs h. (omega (arith, c.decreases), (h.0, (h.1, (c.requires.ids, (c.requires.f_live, can-function c.requires.can)))))
+pub infer_application-open_application-requires : goal.infer_application-open_application-requires
+infer_application-open_application-requires g t c =
+    λ κs h. (omega (arith, c.decreases), (h.0, (h.1, (c.requires.ids, (c.requires.f_live, (c.requires.u_live, (c.requires.can, c.new-filled.ensures)))))))
 
-pub infer_application-apply_typed-requires : goal.infer_application-apply_typed-requires
-infer_application-apply_typed-requires g t c =
+pub infer_application-returns-in_err-ty : goal.infer_application-returns-in_err-ty
+infer_application-returns-in_err-ty g t c =
+    let q = err_from_is_err_and c.from_residual.result c.from_residual.ensures.1 in
+    refused-open c.open_application.ensures c.in_err-ty.was (q.1 ∙ ap Err q.2)
+
+pub infer_application-close-requires-clause-live : goal.infer_application-close-requires-clause-live
+infer_application-close-requires-clause-live g t c =
+    let y = found-open c.open_application.ensures c.in_ok-ty.was c.in-Yes.is in
+    y.live
+
+pub infer_application-close-requires-clause-values : goal.infer_application-close-requires-clause-values
+infer_application-close-requires-clause-values g t c =
+    let y = found-open c.open_application.ensures c.in_ok-ty.was c.in-Yes.is in
+    y.filled_with.values
+
+pub infer_application-returns-in-Yes : goal.infer_application-returns-in-Yes
+infer_application-returns-in-Yes g t c =
     let old = g.S.TermStore.held c.args.store.now in
-    let mid = g.S.TermStore.held c.infer_at.new.store in
+    let mid = g.S.TermStore.held c.open_application.new.store in
     let G = scope_in old.tree c.args.scope.now in
-    let d = decides-behind 0 c.behind_in.result c.infer_at.ensures c.behind_in.ensures.answer c.behind_in.ensures.live c.behind_in.ensures.refused in
-    let y = found d c.in_ok-ty.was c.in-Yes.is in
-    let e = y.extends in
+    let y = found-open c.open_application.ensures c.in_ok-ty.was c.in-Yes.is in
+    let C = filled_tree mid c.open_application.new.filled.args.items (mid.tree c.in-Yes.ty) in
+    let e = application-is c.args.sig.now c.args.room c.args.units.now.left _ G (old.tree c.args.f) (old.tree c.args.u) C c.requires.low y.answer in
+    let found = finds-by c.args.sig.now (c.args.room + 1) G (App (old.tree c.args.f) (old.tree c.args.u)) C (c.args.units.now.left + 1) _ e in
+    let low = found-low c.args.sig.now (c.args.room + 1) (c.args.units.now.left + 1) _ G (App (old.tree c.args.f) (old.tree c.args.u)) C e in
+    goes-after y.extends y.adds y.sum y.spends (decided-made c.close.result C c.close.ensures.answer c.close.ensures.live c.close.ensures.extends c.close.ensures.adds c.close.ensures.full)
+    (ap (λ r. answered r c.open_application.new.units.left) (typed-low C low) ∙ y.answer) (λ x p. p) (type-part found)
+
+pub open_application-open_at-requires : goal.open_application-open_at-requires
+open_application-open_at-requires g t c =
+    λ κs h. (omega (arith, c.decreases), (h.0, (h.1, (c.requires.ids, (c.requires.f_live, (can-function c.requires.can, c.requires.none))))))
+
+pub open_application-fill_next-requires : goal.open_application-fill_next-requires
+open_application-fill_next-requires g t c =
+    let old = g.S.TermStore.held c.args.store.now in
+    let mid = g.S.TermStore.held c.open_at.new.store in
+    let G = scope_in old.tree c.args.scope.now in
+    let d = opens-behind 0 c.behind_in.result c.open_at.ensures c.behind_in.ensures.answer c.behind_in.ensures.live c.behind_in.ensures.refused in
+    let y = found-open d c.in_ok-ty.was c.in-Yes.is in
+    let C = filled_tree mid c.open_at.new.filled.args.items (mid.tree c.in-Yes.ty) in
+    let e = behind-yes 0 (infer_of c.args.sig.now c.args.room G (old.tree c.args.f) c.args.units.now.left) C _ y.answer in
+    λ κs h. (omega (arith, c.decreases), (h.0, (h.1, (stands-stay _ _ y.extends _ _ c.requires.ids, (y.extends.lives _ c.requires.u_live, (y.live, (can-kept_id y.extends c.requires.u_live (can-argument c.requires.can), (can-kept old mid c.args.sig.now _ c.args.scope.now C y.extends (can-inferred (can-head c.requires.can) c.args.room c.args.units.now.left _ C e), (y.filled_with, found-low c.args.sig.now c.args.room c.args.units.now.left _ G (old.tree c.args.f) C e)))))))))
+
+pub open_application-returns-in_err-ty : goal.open_application-returns-in_err-ty
+open_application-returns-in_err-ty g t c =
+    let old = g.S.TermStore.held c.args.store.now in
+    let G = scope_in old.tree c.args.scope.now in
+    let q = err_from_is_err_and c.from_residual.result c.from_residual.ensures.1 in
+    let d = opens-behind 0 c.behind_in.result c.open_at.ensures c.behind_in.ensures.answer c.behind_in.ensures.live c.behind_in.ensures.refused in
+    opens-refusal c.open_at.new.filled (q.1 ∙ ap Err q.2) (refused (decided.apply_typed c.args.sig.now (infer_sort_of c.args.sig.now c.args.room) (check_of c.args.sig.now c.args.room) G (old.tree c.args.u)) (refused-open d c.in_err-ty.was refl) refl (q.1 ∙ ap Err q.2) function-part)
+
+pub open_application-returns-in-No : goal.open_application-returns-in-No
+open_application-returns-in-No g t c =
+    let old = g.S.TermStore.held c.args.store.now in
+    let G = scope_in old.tree c.args.scope.now in
+    let d = opens-behind 0 c.behind_in.result c.open_at.ensures c.behind_in.ensures.answer c.behind_in.ensures.live c.behind_in.ensures.refused in
+    opens-denial c.open_at.new.filled (denied-by (decided.apply_typed c.args.sig.now (infer_sort_of c.args.sig.now c.args.room) (check_of c.args.sig.now c.args.room) G (old.tree c.args.u)) (denied-open d c.in_ok-ty.was c.in-No.is) refl refl function-part)
+
+pub open_application-returns-in-Yes : goal.open_application-returns-in-Yes
+open_application-returns-in-Yes g t c =
+    let old = g.S.TermStore.held c.args.store.now in
+    let mid = g.S.TermStore.held c.open_at.new.store in
+    let G = scope_in old.tree c.args.scope.now in
+    let K = scope_in mid.tree c.args.scope.now in
+    let d = opens-behind 0 c.behind_in.result c.open_at.ensures c.behind_in.ensures.answer c.behind_in.ensures.live c.behind_in.ensures.refused in
+    let y = found-open d c.in_ok-ty.was c.in-Yes.is in
+    let C = filled_tree mid c.open_at.new.filled.args.items (mid.tree c.in-Yes.ty) in
+    let e = behind-yes 0 (infer_of c.args.sig.now c.args.room G (old.tree c.args.f) c.args.units.now.left) C _ y.answer in
+    let scopes = scope-kept old mid c.args.scope.now y.extends c.requires.can.context_live in
+    opens-after y.extends y.adds y.sum y.spends c.fill_next.ensures
+    (application-then G K scopes c.args.sig.now (infer_of c.args.sig.now c.args.room) (infer_sort_of c.args.sig.now c.args.room) (check_of c.args.sig.now c.args.room) (old.tree c.args.f) (old.tree c.args.u) (mid.tree c.args.u) C c.args.units.now.left _ (y.extends.trees _ c.requires.u_live) y.answer)
+    function-part
+    (λ x p. applied-part (finds-by c.args.sig.now c.args.room G (old.tree c.args.f) C c.args.units.now.left _ e) x (applied-before y.extends c.args.scope.now c.requires.can.context_live {S = c.args.sig.now} {c = C} (y.extends.trees _ c.requires.u_live) x p))
+
+pub open_at-returns-then-room-eq0 : goal.open_at-returns-then-room-eq0
+open_at-returns-then-room-eq0 g t c =
+    let old = g.S.TermStore.held c.args.store.now in
+    let G = scope_in old.tree c.args.scope.now in
+    opens-plain c.args.filled.now (Err Deep) c.requires.none (decided-deep _ old c.args.units.now _ (infer-none c.args.sig.now c.args.room c.args.units.now.left G (old.tree c.args.t) (omega (arith, c.if-room-eq0.true))))
+
+pub open_at-open_application-requires : goal.open_at-open_application-requires
+open_at-open_application-requires g t c =
+    let old = g.S.TermStore.held c.args.store.now in
+    let is = c.look.ensures.says ∙ ap (says old.tree) c.in-App.is in
+    let parts = transport (AllPass old.live) c.in-App.is c.look.ensures.live in
+    λ κs h. (omega (arith, c.decreases), (h.0, (h.1, (c.requires.ids, (parts.0, (parts.1, (can-fewer ((c.args.room - 1) + 1) (transport (CanCheckIn old c.args.sig.now c.args.room c.args.scope.now) is c.requires.can) (omega arith), c.requires.none)))))))
+
+pub open_at-returns-in_ok-spend-in-App : goal.open_at-returns-in_ok-spend-in-App
+open_at-returns-in_ok-spend-in-App g t c =
+    let old = g.S.TermStore.held c.args.store.now in
+    let G = scope_in old.tree c.args.scope.now in
+    let is = c.look.ensures.says ∙ ap (says old.tree) c.in-App.is in
+    transport
+    (λ x. Opens (IsCheckedPart c.args.sig.now G x) old (g.S.TermStore.held c.open_application.new.store) c.args.units.now c.open_application.new.units c.open_application.new.filled
+    c.open_application.result (infer_of c.args.sig.now c.args.room G x c.args.units.now.left)) (sym is)
+    (opens-spent (omega (arith, c.in_ok-spend-in-App.ensures.total)) (omega (arith, c.in_ok-spend-in-App.ensures.spends))
+    (opens-as (infer-is c.args.sig.now c.args.room (c.args.room - 1) c.args.units.now.left c.spend.new.self.left G (App (old.tree c.in-App.f) (old.tree c.in-App.u)) (omega (arith, c.if-room-eq0.false))
+    (omega (arith, c.in_ok-spend-in-App.ensures.ok)) (transport (λ x. height x ≤ 2000) is c.look.ensures.low)) c.open_application.ensures))
+
+pub open_at-infer_at-requires : goal.open_at-infer_at-requires
+open_at-infer_at-requires g t c =
+    λ κs h. (omega (arith, c.decreases), (h.0, (h.1, (c.requires.ids, (c.requires.t_live, c.requires.can)))))
+
+pub open_at-returns-in_default : goal.open_at-returns-in_default
+open_at-returns-in_default g t c =
+    opens-plain c.args.filled.now c.infer_at.result c.requires.none c.infer_at.ensures
+
+pub fill_next-fill_closed-requires : goal.fill_next-fill_closed-requires
+fill_next-fill_closed-requires g t c =
+    λ κs h. (omega (arith, c.decreases), (h.0, (h.1, (c.requires.ids, (c.requires.u_live, (c.requires.ty_live, (c.requires.argument, (c.requires.function, (c.requires.filled, c.requires.low)))))))))
+
+pub fill_next-returns-then-not-stays_low : goal.fill_next-returns-then-not-stays_low
+fill_next-returns-then-not-stays_low g t c =
+    c.fill_closed.ensures
+
+pub fill_next-fill_product-requires : goal.fill_next-fill_product-requires
+fill_next-fill_product-requires g t c =
+    let old = g.S.TermStore.held c.args.store.now in
+    let is = c.look.ensures.says ∙ ap (says old.tree) c.in-Pi.is in
+    let parts = transport (AllPass old.live) c.in-Pi.is c.look.ensures.live in
     λ κs h. (
       omega (arith, c.decreases),
       (
@@ -300,17 +421,24 @@ infer_application-apply_typed-requires g t c =
         (
           h.1,
           (
-            stands-stay _ _ e _ _ c.requires.ids,
+            c.requires.ids,
             (
-              e.lives _ c.requires.u_live,
+              c.requires.u_live,
               (
-                y.live,
+                parts.0,
                 (
-                  can-kept_id e c.requires.u_live
-                      (can-argument c.requires.can),
-                  can-kept old mid c.args.sig.now _ c.args.scope.now (mid.tree c.in-Yes.ty) e (can-inferred (can-head c.requires.can)
-                      c.args.room c.args.units.now.left _ (mid.tree c.in-Yes.ty) (behind-yes 0 (infer_of c.args.sig.now c.args.room G (old.tree c.args.f) c.args.units.now.left)
-                      (mid.tree c.in-Yes.ty) _ y.answer)),
+                  parts.1,
+                  (
+                    c.requires.argument,
+                    (
+                      transport (λ x. CanCheckIn old c.args.sig.now (c.args.room + 1) c.args.scope.now (filled_tree old c.args.filled.now.args.items x)) is c.requires.function,
+                      (
+                        will_fill c.args.filled.now c.args.u c.in-Pi.b (old.tree c.in-Pi.a) c.highest_with-highest.result c.requires.filled (can-inner c.requires.argument) c.highest_with-highest.ensures.filled
+                            (omega (arith, c.height.ensures.height, c.highest_with-highest.ensures.more)) (transport (λ x. height x + c.highest_with-highest.result ≤ 2000) is (c.stays_low.ensures c.if-not-stays_low.false)),
+                        transport (λ x. height (filled_tree old c.args.filled.now.args.items x) ≤ 2000) is c.requires.low,
+                      ),
+                    ),
+                  ),
                 ),
               ),
             ),
@@ -319,40 +447,123 @@ infer_application-apply_typed-requires g t c =
       ),
     )
 
-pub infer_application-returns-in_err-ty : goal.infer_application-returns-in_err-ty
-infer_application-returns-in_err-ty g t c =
+pub fill_next-returns-in-Pi : goal.fill_next-returns-in-Pi
+fill_next-returns-in-Pi g t c =
     let old = g.S.TermStore.held c.args.store.now in
     let G = scope_in old.tree c.args.scope.now in
+    let is = c.look.ensures.says ∙ ap (says old.tree) c.in-Pi.is in
+    let C = filled_tree old c.args.filled.now.args.items (Pi (old.tree c.in-Pi.a) (old.tree c.in-Pi.b)) in
+    transport
+    (λ x. Opens (IsAppliedPart c.args.sig.now G (old.tree c.args.u) (filled_tree old c.args.filled.now.args.items x)) old (g.S.TermStore.held c.fill_product.new.store) c.args.units.now c.fill_product.new.units
+    c.fill_product.new.filled c.fill_product.result (decided.apply_typed c.args.sig.now (infer_sort_of c.args.sig.now c.args.room) (check_of c.args.sig.now c.args.room) G (old.tree c.args.u) (filled_tree old c.args.filled.now.args.items x) c.args.units.now.left)) (sym is)
+    (opens-more c.fill_product.result (λ x p. inr (C, (first-formed c.args.sig.now true C [], p))) c.fill_product.ensures)
+
+pub fill_next-returns-in_default : goal.fill_next-returns-in_default
+fill_next-returns-in_default g t c =
+    c.fill_closed-in_default.ensures
+
+pub fill_closed-closed_type-requires-clause-values : goal.fill_closed-closed_type-requires-clause-values
+fill_closed-closed_type-requires-clause-values g t c =
+    c.requires.filled.values
+
+pub fill_closed-returns-in_err-made : goal.fill_closed-returns-in_err-made
+fill_closed-returns-in_err-made g t c =
+    let old = g.S.TermStore.held c.args.store.now in
+    let new = g.S.TermStore.held c.closed_type.new.store in
     let q = err_from_is_err_and c.from_residual.result c.from_residual.ensures.1 in
-    let d = decides-behind 0 c.behind_in.result c.infer_at.ensures c.behind_in.ensures.answer c.behind_in.ensures.live c.behind_in.ensures.refused in
-    refused (decided.apply_typed c.args.sig.now (infer_sort_of c.args.sig.now c.args.room) (check_of c.args.sig.now c.args.room) G (old.tree c.args.u)) d
-    c.in_err-ty.was (q.1 ∙ ap Err q.2) function-part
+    let C = filled_tree old c.args.filled.now.args.items (old.tree c.args.ty) in
+    opens-refusal c.args.filled.now (q.1 ∙ ap Err q.2)
+    (stopped (q.1 ∙ ap Err q.2) (λ memory full. absurd (omega (arith, (c.in_err-made.ensures.makes memory full).1, c.requires.low))) c.in_err-made.ensures.extends
+    (adds-parts (λ x. IsPart x C) C old new (λ x p. p) c.in_err-made.ensures.adds) (λ full. lacks-parts (λ x. IsPart x C) C new (λ x p. p) (c.in_err-made.ensures.full full)) refl (omega arith)
+    (λ x p. inl (inl (record { whole = C; formed = first-formed c.args.sig.now true C []; part = p }))))
 
-pub infer_application-returns-in-No : goal.infer_application-returns-in-No
-infer_application-returns-in-No g t c =
-    let old = g.S.TermStore.held c.args.store.now in
-    let G = scope_in old.tree c.args.scope.now in
-    let d = decides-behind 0 c.behind_in.result c.infer_at.ensures c.behind_in.ensures.answer c.behind_in.ensures.live c.behind_in.ensures.refused in
-    denied-by (decided.apply_typed c.args.sig.now (infer_sort_of c.args.sig.now c.args.room) (check_of c.args.sig.now c.args.room) G (old.tree c.args.u)) d
-    c.in_ok-ty.was c.in-No.is function-part
+pub fill_closed-apply_typed-requires : goal.fill_closed-apply_typed-requires
+fill_closed-apply_typed-requires g t c =
+    let e = c.in_ok-made.ensures.extends in
+    λ κs h. (omega (arith, c.decreases), (h.0, (h.1, (stands-stay _ _ e _ _ c.requires.ids, (e.lives _ c.requires.u_live, (c.in_ok-made.ensures.makes.0, (can-kept_id e c.requires.u_live c.requires.argument, can-kept_of e c.in_ok-made.ensures.makes.1 c.requires.function)))))))
 
-pub infer_application-returns-in-Yes : goal.infer_application-returns-in-Yes
-infer_application-returns-in-Yes g t c =
+pub fill_closed-returns : goal.fill_closed-returns
+fill_closed-returns g t c =
     let old = g.S.TermStore.held c.args.store.now in
-    let mid = g.S.TermStore.held c.infer_at.new.store in
+    let mid = g.S.TermStore.held c.closed_type.new.store in
     let G = scope_in old.tree c.args.scope.now in
     let K = scope_in mid.tree c.args.scope.now in
-    let d = decides-behind 0 c.behind_in.result c.infer_at.ensures c.behind_in.ensures.answer c.behind_in.ensures.live c.behind_in.ensures.refused in
-    let y = found d c.in_ok-ty.was c.in-Yes.is in
+    let C = filled_tree old c.args.filled.now.args.items (old.tree c.args.ty) in
+    let e = c.in_ok-made.ensures.extends in
+    let scopes = scope-kept old mid c.args.scope.now e c.requires.function.context_live in
+    opens-plain c.clear.new.self c.apply_typed.result c.clear.ensures
+    (goes-after e (adds-parts (λ x. IsPart x C) C old mid (λ x p. p) c.in_ok-made.ensures.adds) refl (omega arith) c.apply_typed.ensures
+    (typed-same c.args.sig.now (infer_sort_of c.args.sig.now c.args.room) (check_of c.args.sig.now c.args.room) G K scopes (old.tree c.args.u) (mid.tree c.args.u) C (mid.tree c.in_ok-made.made) c.args.units.now.left (e.trees _ c.requires.u_live) c.in_ok-made.ensures.makes.1)
+    (λ x p. inl (inl (record { whole = C; formed = first-formed c.args.sig.now true C []; part = p })))
+    (λ x p. transport (λ w. IsAppliedPart c.args.sig.now G (old.tree c.args.u) w x) c.in_ok-made.ensures.makes.1
+    (applied-before e c.args.scope.now c.requires.function.context_live {S = c.args.sig.now} {c = mid.tree c.in_ok-made.made} (e.trees _ c.requires.u_live) x p)))
+
+pub fill_product-closed_type-requires-clause-values : goal.fill_product-closed_type-requires-clause-values
+fill_product-closed_type-requires-clause-values g t c =
+    c.requires.more.values
+
+pub fill_product-returns-in_err-domain : goal.fill_product-returns-in_err-domain
+fill_product-returns-in_err-domain g t c =
+    let old = g.S.TermStore.held c.args.store.now in
+    let new = g.S.TermStore.held c.closed_type.new.store in
+    let q = err_from_is_err_and c.from_residual.result c.from_residual.ensures.1 in
+    let A = filled_tree old c.args.filled.now.args.items (old.tree c.args.a) in
+    opens-refusal c.args.filled.now (q.1 ∙ ap Err q.2)
+    (stopped (q.1 ∙ ap Err q.2) (λ memory full. absurd (omega (arith, (c.in_err-domain.ensures.makes memory full).1, c.requires.low))) c.in_err-domain.ensures.extends
+    (adds-parts (λ x. IsPart x A) A old new (λ x p. p) c.in_err-domain.ensures.adds) (λ full. lacks-parts (λ x. IsPart x A) A new (λ x p. p) (c.in_err-domain.ensures.full full)) refl (omega arith)
+    (λ x p. inl (inr (record { whole = A; formed = first-formed c.args.sig.now true A []; part = p }))))
+
+pub fill_product-fill_checked-requires : goal.fill_product-fill_checked-requires
+fill_product-fill_checked-requires g t c =
+    let e = c.in_ok-domain.ensures.extends in
+    λ κs h. (omega (arith, c.decreases), (h.0, (h.1, (stands-stay _ _ e _ _ c.requires.ids, (e.lives _ c.requires.u_live, (c.in_ok-domain.ensures.makes.0, (e.lives _ c.requires.b_live, (can-fewer c.args.room (can-kept_id e c.requires.u_live c.requires.argument) (omega arith), (can-kept_of e c.in_ok-domain.ensures.makes.1 (can-domain c.requires.function), will_fill-kept c.args.filled.now.args.items c.args.u c.args.b c.args.highest e c.requires.u_live c.requires.b_live c.requires.more)))))))))
+
+pub fill_product-returns : goal.fill_product-returns
+fill_product-returns g t c =
+    let old = g.S.TermStore.held c.args.store.now in
+    let mid = g.S.TermStore.held c.closed_type.new.store in
+    let G = scope_in old.tree c.args.scope.now in
+    let K = scope_in mid.tree c.args.scope.now in
+    let A = filled_tree old c.args.filled.now.args.items (old.tree c.args.a) in
+    let B = inst (ups (fill Var (trees_of old c.args.filled.now.args.items))) (old.tree c.args.b) in
+    let e = c.in_ok-domain.ensures.extends in
+    let scopes = scope-kept old mid c.args.scope.now e c.requires.function.context_live in
+    opens-after e (adds-parts (λ x. IsPart x A) A old mid (λ x p. p) c.in_ok-domain.ensures.adds) refl (omega arith) c.fill_checked.ensures
+    (argument-same (check_of c.args.sig.now c.args.room) G K scopes (old.tree c.args.u) (mid.tree c.args.u) A (mid.tree c.in_ok-domain.domain) B (inst (ups (fill Var (trees_of mid c.args.filled.now.args.items))) (mid.tree c.args.b)) c.args.units.now.left
+    (e.trees _ c.requires.u_live) c.in_ok-domain.ensures.makes.1 (codomain-kept c.args.filled.now.args.items e c.requires.more.values c.requires.b_live))
+    (λ x p. inl (inr (record { whole = A; formed = first-formed c.args.sig.now true A []; part = p })))
+    (λ x p. inl (against-before e c.args.scope.now c.requires.function.context_live {S = c.args.sig.now} (e.trees _ c.requires.u_live) c.in_ok-domain.ensures.makes.1 x p))
+
+pub fill_checked-check_at-requires : goal.fill_checked-check_at-requires
+fill_checked-check_at-requires g t c =
+    λ κs h. (omega (arith, c.decreases), (h.0, (h.1, (c.requires.ids, (c.requires.u_live, (c.requires.domain_live, (c.requires.argument, c.requires.wanted)))))))
+
+pub fill_checked-returns-in_err-behind_in : goal.fill_checked-returns-in_err-behind_in
+fill_checked-returns-in_err-behind_in g t c =
+    let old = g.S.TermStore.held c.args.store.now in
+    let q = err_from_is_err_and c.from_residual.result c.from_residual.ensures.1 in
+    let d = decides-behind 1 c.behind_in.result c.check_at.ensures c.behind_in.ensures.answer c.behind_in.ensures.live c.behind_in.ensures.refused in
+    let B = inst (ups (fill Var (trees_of old c.args.filled.now.args.items))) (old.tree c.args.b) in
+    opens-refusal c.args.filled.now (q.1 ∙ ap Err q.2) (refused (decided.instance_type B (old.tree c.args.u)) d c.in_err-behind_in.was (q.1 ∙ ap Err q.2) (λ x p. p))
+
+pub fill_checked-returns-in-No : goal.fill_checked-returns-in-No
+fill_checked-returns-in-No g t c =
+    let old = g.S.TermStore.held c.args.store.now in
+    let d = decides-behind 1 c.behind_in.result c.check_at.ensures c.behind_in.ensures.answer c.behind_in.ensures.live c.behind_in.ensures.refused in
+    let B = inst (ups (fill Var (trees_of old c.args.filled.now.args.items))) (old.tree c.args.b) in
+    opens-denial c.args.filled.now (denied-by (decided.instance_type B (old.tree c.args.u)) d c.in_ok-behind_in.was c.in-No.is (λ x p. p))
+
+pub fill_checked-returns-in_ok-push-in-Yes : goal.fill_checked-returns-in_ok-push-in-Yes
+fill_checked-returns-in_ok-push-in-Yes g t c =
+    let old = g.S.TermStore.held c.args.store.now in
+    let mid = g.S.TermStore.held c.check_at.new.store in
+    let d = decides-behind 1 c.behind_in.result c.check_at.ensures c.behind_in.ensures.answer c.behind_in.ensures.live c.behind_in.ensures.refused in
+    let y = found d c.in_ok-behind_in.was c.in-Yes.is in
+    let B = inst (ups (fill Var (trees_of old c.args.filled.now.args.items))) (old.tree c.args.b) in
     let e = y.extends in
-    let scopes = scope-kept old mid c.args.scope.now e c.requires.can.context_live in
-    goes-on y (c.apply_typed.ensures)
-    (application-then G K scopes c.args.sig.now (infer_of c.args.sig.now c.args.room) (infer_sort_of c.args.sig.now c.args.room) (check_of c.args.sig.now
-    c.args.room) (old.tree c.args.f) (old.tree c.args.u) (mid.tree c.args.u) (mid.tree c.in-Yes.ty) c.args.units.now.left _ (e.trees _ c.requires.u_live)
-    y.answer) function-part
-    (λ x p. applied-part (finds-by c.args.sig.now c.args.room G (old.tree c.args.f) (mid.tree c.in-Yes.ty) c.args.units.now.left _ (behind-yes 0 (infer_of
-    c.args.sig.now c.args.room G (old.tree c.args.f) c.args.units.now.left) (mid.tree c.in-Yes.ty) _ y.answer)) x (applied-before e c.args.scope.now
-    c.requires.can.context_live {S = c.args.sig.now} {c = (mid.tree c.in-Yes.ty)} (e.trees _ c.requires.u_live) x p))
+    opens-filled c.args.filled.now.args.items c.args.u c.args.b c.args.highest c.push.new.self B (old.tree c.args.u) y c.in_ok-push-in-Yes.ensures.args c.in_ok-push-in-Yes.ensures.highest
+    (will_fill-kept c.args.filled.now.args.items c.args.u c.args.b c.args.highest e c.requires.u_live c.requires.b_live c.requires.more) (e.lives _ c.requires.u_live) (e.lives _ c.requires.b_live)
+    (codomain-kept c.args.filled.now.args.items e c.requires.more.values c.requires.b_live) (e.trees _ c.requires.u_live)
 
 pub apply_typed-product_of-requires : goal.apply_typed-product_of-requires
 apply_typed-product_of-requires g t c = λ κs h. (omega (arith, c.decreases), (h.0, (h.1, (c.requires.ids, (c.requires.ty_live, c.requires.function)))))
@@ -1135,26 +1346,7 @@ infer_form-infer_application-requires g t c =
     let old = g.S.TermStore.held c.args.store.now in
     let is = c.look.ensures.says ∙ ap (says old.tree) c.in-App.is in
     let parts = transport (AllPass old.live) c.in-App.is c.look.ensures.live in
-    λ κs h. (
-      omega (arith, c.decreases),
-      (
-        h.0,
-        (
-          h.1,
-          (
-            c.requires.ids,
-            (
-              parts.0,
-              (
-                parts.1,
-                transport (CanCheckIn old c.args.sig.now (c.args.room + 1) c.args.scope.now)
-                    is c.requires.can,
-              ),
-            ),
-          ),
-        ),
-      ),
-    )
+    λ κs h. (omega (arith, c.decreases), (h.0, (h.1, (c.requires.ids, (parts.0, (parts.1, (transport (CanCheckIn old c.args.sig.now (c.args.room + 1) c.args.scope.now) is c.requires.can, transport (λ x. height x ≤ 2000) is c.look.ensures.low)))))))
 
 pub infer_form-returns-in-App : goal.infer_form-returns-in-App
 infer_form-returns-in-App g t c =

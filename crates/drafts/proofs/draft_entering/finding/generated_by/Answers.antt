@@ -15,5 +15,5 @@ loop-at-preserved c =
 
 pub returns : goal.returns
 returns c =
-    ap Ok (c.identity_from.ensures ∙ sym (entries-end c.args.name.now c.loop-at.at c.args.sig.now.entries
+    ap Ok (c.found_left.ensures ∙ sym (entries-end c.args.name.now c.loop-at.at c.args.sig.now.entries
     (omega (arith, c.loop-at-test.false, c.len.ensures))) ∙ c.loop-at.invariant)

@@ -4,6 +4,6 @@ use Rattle.term_pool.proofs.layer.Layer.over.Goals as goal
 
 pub invariant_of-result : goal.invariant_of-result
 invariant_of-result c =
-    let nodes : c.new.result.keys ≡ [] = search rules in
-    let facts : c.new-2.result.items ≡ [] = search rules in
+    let nodes : c.with_hasher.result.keys ≡ [] = search rules in
+    let facts : c.new.result.items ≡ [] = search rules in
     rw (nodes, facts) (layer-none c.args.base.now.nodes c.args.base.now.cap)
