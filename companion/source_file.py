@@ -214,12 +214,21 @@ class Parser:
         self.take("}")
         return tuple(names), tuple(constructors)
 
+    def decision(self) -> None:
+        """Takes what stands after the name of a decision of equality: `= data FAMILY DECISION`."""
+        self.take("=")
+        self.take("data")
+        self.take()
+        self.take()
+
     def declaration(self) -> Declaration:
         """Takes a declaration."""
         first, form, name = self.at, self.take().text, self.take().text
         names, constructors, clauses = (), (), ()
         if form == "data":
             names, constructors = self.family()
+        elif self.look() == "=":
+            self.decision()
         else:
             self.take(":")
             if form == "fun":

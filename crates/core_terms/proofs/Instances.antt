@@ -168,7 +168,4 @@ height-with s values under (Let a t b) =
     omega (arith, height-with s values under a, height-with s values under t, height-with s values (under + 1) b)
 height-with s values under _ = omega arith
 
-pub height-instance : (values : List Term) (under : ℕ) (t : Term) → height t ≤ height (instance_of values under t)
-height-instance = height-with no_variable
-
 pub ruleset instance_heights = (height-with)

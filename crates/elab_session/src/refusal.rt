@@ -41,6 +41,10 @@ pub struct FailingCall {
 /// and its argument, counted from 1, or 0 for its result; `IndexTooLarge` has a constructor and its argument, or an index
 /// where there is no constructor. `IllTyped`: the checker rejects a written part.
 ///
+/// `NotPlainFamily`, `NotDecision` and `NotFirstOrder` are reasons of decisions of equality: the name is that of nothing whose equality
+/// can be decided, or of nothing into which it can be; `NotFirstOrder` has the first constructor and its first argument, counted from 1,
+/// for whose equality nothing stands.
+///
 /// The others are reasons of functions by clauses, with the function or helper and the number of its clause, counted from 1.
 /// `Stuck`: unification is stuck at each variable that a clause asks for. `Uncovered`: terms for which no clause is left.
 /// `NotAbsurd`: a constructor that can be there, where the clause says that none can. `Impossible`: sides that show that the
@@ -62,6 +66,9 @@ pub enum Refusal {
     BadFamily,
     NotPositive(Name, u32),
     IndexTooLarge(Option<Name>, u32),
+    NotPlainFamily(Name),
+    NotDecision(Name),
+    NotFirstOrder(Name, u32),
     IllTyped {
         part: PartName,
         place: Place,

@@ -1,6 +1,16 @@
 //! The program `elim`: compiles standard input to standard output.
 #![tactic(auto)]
 
+mod elim_program;
+mod function_laws;
+mod headline;
+mod k_laws;
+mod memory_laws;
+mod plan_laws;
+mod program_texts;
+mod refusal_laws;
+mod written_functions;
+
 use elim_ports::{StdSink, StdSource};
 use std::env;
 use std::io::ErrorKind;

@@ -109,7 +109,7 @@ fn varies(page: &mut Page, m: &Matter<'_>, found: Span) {
 }
 
 /// The argument of this number of a constructor.
-fn argument(m: &Matter<'_>, con: Con, number: usize) -> Span {
+pub fn argument(m: &Matter<'_>, con: Con, number: usize) -> Span {
     let types = telescope_of(m.alloc, m.s, con.ty).params;
     types
         .as_slice()

@@ -2,7 +2,7 @@ use crate::characters::char_len;
 use crate::matter::{Matter, number, simple};
 use crate::page::Page;
 use crate::places::Spot;
-use crate::source::{is, part, token_at};
+use crate::source::{part, token_at};
 
 fn spot_of_character(m: &Matter<'_>, at: usize) -> Spot {
     Spot {
@@ -169,29 +169,15 @@ pub fn not_yet(page: &mut Page, m: &Matter<'_>) {
         from: at,
         to: crate::source::end_of(m.s, token.saturating_add(1)),
     };
-    if !is(m.s, token, "def") {
-        let advice =
-            "declare one family with an index that says which of them is meant (examples/tags.elim).";
-        simple(
-            page,
-            m,
-            spot,
-            "families that refer to each other are not implemented yet",
-            advice,
-        );
-    } else if is(m.s, token.saturating_add(3), "data") {
-        let advice = "write the decision by hand (examples/decidable.elim).";
-        simple(
-            page,
-            m,
-            spot,
-            "decisions of equality are not implemented yet",
-            advice,
-        );
-    } else {
-        let advice = "write the type too: `def NAME : TYPE = ..`.";
-        simple(page, m, spot, "this definition has no type", advice);
-    }
+    let advice =
+        "declare one family with an index that says which of them is meant (examples/tags.elim).";
+    simple(
+        page,
+        m,
+        spot,
+        "families that refer to each other are not implemented yet",
+        advice,
+    );
 }
 
 pub fn nested(page: &mut Page, m: &Matter<'_>) {

@@ -10,6 +10,7 @@ mod clauses;
 mod core_files;
 mod core_line;
 mod cover_refusals;
+mod decision_refusals;
 mod families;
 mod family_refusals;
 mod file_refusals;

@@ -9,8 +9,8 @@ use crate::source::{
     Con, Declared, Form, Source, Span, declarations, find_declaration, part, word,
 };
 use crate::{
-    clause_refusals, core_files, cover_refusals, family_refusals, file_refusals, name_refusals,
-    recursion_refusals, syntax_refusals, type_refusals, warnings,
+    clause_refusals, core_files, cover_refusals, decision_refusals, family_refusals, file_refusals,
+    name_refusals, recursion_refusals, syntax_refusals, type_refusals, warnings,
 };
 use core_terms::Items;
 use std::alloc::Global;
@@ -92,6 +92,15 @@ fn of_declaration(page: &mut Page, m: &Matter<'_>) {
         b"BadFamily" => family_refusals::bad_family(page, m),
         b"NotPositive" => family_refusals::not_positive(page, m),
         b"IndexTooLarge" => family_refusals::index_too_large(page, m),
+        _ => of_decision(page, m),
+    }
+}
+
+fn of_decision(page: &mut Page, m: &Matter<'_>) {
+    match core_word(m.line, 3) {
+        b"NotPlainFamily" => decision_refusals::not_plain_family(page, m),
+        b"NotDecision" => decision_refusals::not_decision(page, m),
+        b"NotFirstOrder" => decision_refusals::not_first_order(page, m),
         _ => of_function(page, m),
     }
 }

@@ -337,6 +337,18 @@ fn spot_of_token(m: &Matter<'_>, token: usize) -> Spot {
     }
 }
 
+/// Whether the token comes right after the `=` of a definition that has no type.
+fn is_without_type(m: &Matter<'_>, decl: Declared, token: usize) -> bool {
+    let mark = decl.name.saturating_add(1);
+    decl.form == Form::Def && is(m.s, mark, "=") && token == mark.saturating_add(1)
+}
+
+fn without_type(page: &mut Page, m: &Matter<'_>, spot: Spot) {
+    page.say("this definition has no type");
+    show(page, m, spot);
+    page.advise("write the type too: `def NAME : TYPE = ..`.\n");
+}
+
 pub fn syntax(page: &mut Page, m: &Matter<'_>) {
     let at = number(m, 3);
     let token = token_at(m.s, at);
@@ -346,6 +358,10 @@ pub fn syntax(page: &mut Page, m: &Matter<'_>) {
         outside(page, m, token, spot);
         return;
     };
+    if is_without_type(m, decl, token) {
+        without_type(page, m, spot);
+        return;
+    }
     let may = following(m.alloc, part(m.s.bytes, start_of(m.s, decl.whole.from), at));
     if may.iter().any(|it| *it) {
         page.say("expected ");

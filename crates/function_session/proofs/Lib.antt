@@ -1,7 +1,14 @@
 pub mod Answering
 pub mod Counting
+pub mod DecisionTypes
+pub mod DeclaredDecisions
+pub mod EnterableDecisions
+pub mod EnteredDrafts
+pub mod HeldDecisions
 pub mod Keeping
 pub mod OwnEntry
 pub mod Planned
+pub mod RefusedDecisions
 pub mod Reported
+pub mod SessionAnswers
 pub mod Written

@@ -135,7 +135,7 @@ own-typed S T name type h well p =
 
 -- ---- entering
 
-define-enters : (S : Signature) (name : List ℕ) (type body : Term) (left : ℕ)
+pub define-enters : (S : Signature) (name : List ℕ) (type body : Term) (left : ℕ)
     → Answers (λ (e : Entered). e ≡ entered S (Definition name type body)) (define_of S name type body left)
 define-enters S name type body left =
     let P : Entered → Type 0 = λ e. e ≡ entered S (Definition name type body) in

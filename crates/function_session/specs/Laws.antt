@@ -19,8 +19,11 @@ use Rattle.clause_reports.specs.elaboration.Refusals.{Owner, owner_of}
 use Rattle.elab_session.specs.Declaring.{accepted_as}
 use Rattle.elab_session.specs.Laws as session
 use Rattle.elab_session.specs.Sessions.{IsReady}
+use Rattle.function_session.specs.Declaring.{declared_in, session_after}
 use Rattle.function_session.specs.Elaborating.{Elaborated, declared_of, elaborate_of}
 use Rattle.function_session.specs.Evidence.{AreLinesOf, line_owner, references_from}
+use Rattle.function_session.specs.Sessions.{Session}
+use Rattle.function_session.specs.decisions.Laws.{HoldsDecisions, IsWrittenDecision}
 
 -- After a declaration the signature is again one that a session may have, and the earlier entries stay.
 pub record KeepsReady (S : Signature) (a : Elaborated) : Type 0 where
@@ -98,3 +101,19 @@ IsAsWritten S fuel d a = IsWrittenPlainly S d a
 
 abbrev pub ElaboratesAsWritten : Type 0
 ElaboratesAsWritten = (S : Signature) (fuel : ℕ) (d : surf.Decl) → IsReady S → IfOk (elaborate_of S fuel d) (IsAsWritten S fuel d)
+
+-- ---- declarations in a session
+
+abbrev pub DeclareKeepsReady : Type 0
+DeclareKeepsReady = (s : Session) (d : surf.Decl) → IsReady s.signature → IfOk (declared_in s d) (KeepsReady s.signature)
+
+-- After a declaration, accepted or not, the decisions of the session are there.
+abbrev pub DeclareHoldsDecisions : Type 0
+DeclareHoldsDecisions = (s : Session) (d : surf.Decl) → IsReady s.signature → HoldsDecisions s → HoldsDecisions (session_after s d (declared_in s d))
+
+abbrev pub IsAsDeclared : Session → surf.Decl → Elaborated → Type 0
+IsAsDeclared s (surf.Decide x family into) a = IsWrittenDecision s x family into a
+IsAsDeclared s d a = IsAsWritten s.signature s.fuel d a
+
+abbrev pub DeclaresAsWritten : Type 0
+DeclaresAsWritten = (s : Session) (d : surf.Decl) → IsReady s.signature → IfOk (declared_in s d) (IsAsDeclared s d)

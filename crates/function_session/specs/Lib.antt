@@ -1,4 +1,6 @@
+pub mod decisions
 pub mod function_lines
+pub mod Declaring
 pub mod Elaborating
 pub mod Evidence
 pub mod Laws

@@ -9,5 +9,6 @@ mod refusing;
 mod reporting;
 mod values;
 
+pub(crate) use entering::enter_opened;
 pub use functions::function;
 pub use lines::ClauseLine;

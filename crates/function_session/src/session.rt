@@ -1,4 +1,4 @@
-ghost use Rattle.std.specs.Prelude.{◌≡◌, length, IfOk, OnErr};
+ghost use Rattle.std.specs.Prelude.{◌≡◌, length, IfOk, OnErr, OnOk};
 ghost use Rattle.theory.specs.Prelude.{prelude};
 ghost use Rattle.theory.specs.Signatures.{IsPrefix};
 ghost use Rattle.core_terms.specs.declared.stop.Stop.TheVariants.{Memory};
@@ -9,12 +9,12 @@ ghost use Rattle.core_text.specs.RawEntries.{entry_shown};
 ghost use Rattle.elab_session.specs.Adding.{IsAdded};
 ghost use Rattle.elab_session.specs.Entering.{CanEnter, Enters, enter_of};
 ghost use Rattle.elab_session.specs.Sessions.{IsReady};
-ghost use Rattle.function_session.specs.Elaborating.{elaborate_of};
-ghost use Rattle.function_session.specs.Laws.{IsAsWritten};
+ghost use Rattle.function_session.specs.Declaring.{declared_in, new_session, with_declared};
+ghost use Rattle.function_session.specs.Laws.{IsAsDeclared};
 ghost use Rattle.function_session.specs.Meanings.{Answers, elaborated_in};
 
-use crate::Accepted;
-use crate::elaborating::elaborate;
+use crate::declaring::declare;
+use crate::{Accepted, Decision};
 use core_sig::{Entry, Signature};
 use core_terms::Stop;
 use elab_session::{Refusal, enter_entry};
@@ -22,11 +22,13 @@ use std::alloc::Global;
 use std::marker::Model;
 use surface_syntax::Decl;
 
-/// The signature that declarations add their entries to, and the units that each declaration may spend. Whoever writes to the
-/// signature leaves it well formed, settled, and with the prelude at its front.
+/// The signature that declarations add their entries to, the decisions of equality among these, in the order in which they were
+/// accepted, and the units that each declaration may spend. Whoever writes to the signature leaves it well formed, settled, and with
+/// the prelude at its front.
 #[derive(Drop)]
 pub struct Session {
     sig: Signature,
+    decisions: Vec<Decision>,
     fuel: u64,
     alloc: Global,
 }
@@ -39,7 +41,7 @@ impl Model for Session {
 
     ghost coded = { session_code };
 
-    ghost view = { λ s. record { signature = s.sig; fuel = s.fuel } };
+    ghost view = { λ s. record { signature = s.sig; decisions = s.decisions.items; fuel = s.fuel } };
 
     ghost invariant = { λ s. IsReady s.sig };
 }
@@ -49,10 +51,16 @@ impl Session {
     pub fn new(alloc: Global, k: bool, fuel: u64) -> Result<Session, Stop>
         ensures signature { IfOk result (λ s. s.signature ≡ prelude k) }
         ensures fuel { IfOk result (λ s. s.fuel ≡ fuel) }
+        ensures whole { IfOk result (λ s. s ≡ new_session k fuel) }
         ensures memory { OnErr result (result ≡ Err Memory) }
     {
         let sig = Signature::prelude(alloc, k)?;
-        Ok(Session { sig, fuel, alloc })
+        Ok(Session {
+            sig,
+            decisions: Vec::new(alloc),
+            fuel,
+            alloc,
+        })
     }
 
     /// The prelude and the entries that were accepted.
@@ -65,16 +73,17 @@ impl Session {
 
     /// Adds the entries of a declaration. After a refusal the session is as it was.
     pub fn declare(&mut self, d: &Decl) -> Result<Accepted, Refusal>
-        ensures answer { Answers self.new.signature result (elaborate_of self.old.signature self.old.fuel (decl_of d.now)) }
+        ensures answer { Answers self.new.signature result (declared_in self.old (decl_of d.now)) }
         ensures err { OnErr result (self.new ≡ self.old) }
+        ensures next { OnOk result (self.new ≡ with_declared self.old (decl_of d.now) self.new.signature) }
         ensures fuel { self.new.fuel ≡ self.old.fuel }
         ensures longer { IsPrefix self.old.signature self.new.signature }
         ensures ready { IsReady self.new.signature }
-        ensures written { IfOk result (λ a. IsAsWritten self.old.signature self.old.fuel (decl_of d.now) (elaborated_in self.new.signature a)) }
+        ensures written { IfOk result (λ a. IsAsDeclared self.old (decl_of d.now) (elaborated_in self.new.signature a)) }
         ensures begins { IfOk result (λ a. a.from ≡ length self.old.signature.entries) }
         ensures ends { IfOk result (λ a. a.to ≡ length self.new.signature.entries) }
     {
-        elaborate(self.alloc, &mut self.sig, self.fuel, d)
+        declare(self.alloc, &mut self.sig, &mut self.decisions, self.fuel, d)
     }
 
     /// Adds an entry of a core file and answers its number, also where it is an instance that is there already. After a refusal

@@ -4,7 +4,6 @@ use Rattle.std.proofs.lemmas.Bool.Decides.{nat_tests}
 use Rattle.theory.specs.Terms.{Term, height}
 use Rattle.core_terms.specs.Answers.{bounded, is_low}
 use Rattle.core_terms.specs.Verdicts.Verdict.{Yes}
-use Rattle.core_terms.specs.declared.stop.Stop.{Stop}
 use Rattle.core_terms.specs.declared.stop.Stop.TheVariants.{Deep}
 use Rattle.core_terms.proofs.Placing.{bounded-high}
 use Rattle.kernel_check.specs.Checking.{typed as of_type, yes_of}
@@ -25,7 +24,3 @@ typed-high t high = ap yes_of (bounded-high t high)
 -- the tree of an id that was made
 pub made-typed : (u t : Term) → u ≡ t → height t ≤ 2000 → Ok (Yes u) ≡ of_type t
 made-typed u t is low = ap (λ x. Ok (Yes x)) is ∙ sym (typed-low t low)
-
--- and where none was made
-pub refused-typed : (e : Stop) (t : Term) → (e ≡ Deep) × (2000 < height t) → Err e ≡ of_type t
-refused-typed e t h = ap Err h.0 ∙ sym (typed-high t h.1)

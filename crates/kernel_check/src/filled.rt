@@ -29,6 +29,12 @@ impl<I: Copy> Filled<I> {
         }
     }
 
+    fn is_empty(&self) -> bool
+        ensures { IsTrue result → self.now.args.items ≡ [] }
+    {
+        self.args.is_empty()
+    }
+
     /// A bound of the heights of the arguments and of one more, which is as high as this.
     pub(crate) fn highest_with(&self, height: u32) -> u32
         ensures filled { self.now.highest ≤ result }
@@ -41,7 +47,7 @@ impl<I: Copy> Filled<I> {
         }
     }
 
-    /// One argument more. None is as high as `highest`, or all are lower.
+    /// One argument more, with a bound of the heights of all.
     pub(crate) fn push(&mut self, arg: I, highest: u32) -> Result<(), Stop>
         ensures args { OnOk result (self.new.args.items ≡ self.old.args.items ++ (arg ∷ [])) }
         ensures highest { OnOk result (self.new.highest ≡ highest) }
@@ -81,6 +87,10 @@ pub(crate) fn closed_type<S: TermStore>(
     ensures extends { Extends (S.held store.old) (S.held store.new) }
     ensures adds { AddsParts (S.held store.old) (S.held store.new) (filled_tree (S.held store.old) filled.now.args.items ((S.held store.old).tree ty)) }
 {
+    if filled.is_empty() {
+        let _low = store.height(&ty);
+        return Ok(ty);
+    }
     subst_all_in(alloc, store, filled.args.as_slice(), ty)
 }
 

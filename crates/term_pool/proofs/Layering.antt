@@ -23,14 +23,6 @@ module _ {X : Type 0} where
 
 pub ruleset place_laws = (at-append, at-behind)
 
--- a node in neither list is not in the second
-pub own-nowhere : (below nodes : List (Node Id)) (n : Node Id) → ((i : ℕ) → i < length (below ++ nodes) → node_at (below ++ nodes) i ≢ n)
-    → (i : ℕ) → i < length nodes → node_at nodes i ≢ n
-own-nowhere below nodes n new i less e =
-    let place : length below + i - length below ≡ i = omega arith in
-    new (length below + i) (omega (arith, less, length-append below nodes))
-    (at-behind (Sort 0) below nodes (length below + i) (omega arith) ∙ (ap (λ j. node_at nodes j) place ∙ e))
-
 module _ (below : List (Node Id)) (cap : ℕ) where
   -- no nodes beside those of the pool
   pub layer-none : IsLayer below cap [] []

@@ -161,7 +161,3 @@ placed-layer below cap nodes facts l n parts f made nodes' facts' room at first 
           placed-pool (below ++ nodes) (kept ++ facts) cap (l.whole kept p) n parts f made (below ++ nodes') (kept ++ facts') (length below + at)
           (placed-over below kept nodes facts cap room n f nodes' facts' at first small is h);
     }
-
--- a pool with another room
-pub pool-limited : (nodes : List (Node Id)) (facts : List Facts) (cap cap' : ℕ) → IsPool nodes facts cap → length nodes ≤ cap' → cap' ≤ 50000000 → IsPool nodes facts cap'
-pool-limited nodes facts cap cap' p room small = record { shelved = p.shelved; distinct = p.distinct; room = room; small = small }

@@ -65,6 +65,10 @@ checked_entered S name d left = and_next (reporting S (owner_of name 0) (enter_d
 abbrev pub draft_entered : Signature → (name : List ℕ) → Draft → ℕ → Elaborating Signature
 draft_entered S name d left = cond (enterable S d) (checked_entered S name d left) (deep left)
 
+-- the same, or Deep where drafts may not enter the signature
+abbrev pub draft_opened : Signature → (name : List ℕ) → Draft → ℕ → Elaborating Signature
+draft_opened S name d left = cond (unmarked S) (draft_entered S name d left) (deep left)
+
 abbrev pub drafts_entered : Signature → (name : List ℕ) → List Draft → ℕ → Elaborating Signature
 drafts_entered S name [] left = answers (Ok S) left
 drafts_entered S name (d ∷ drafts) left = and_next (draft_entered S name d left) (λ T rest. drafts_entered T name drafts rest)

@@ -199,3 +199,25 @@ pub(crate) fn enter_plan(
     }
     enter_translated(alloc, sig, plan, units)
 }
+
+/// Adds a draft with this name to a well-formed signature, or Deep where it may not enter, or where a name of a family or of a
+/// constructor holds a `!`.
+pub(crate) fn enter_opened(
+    alloc: Global,
+    sig: &mut Signature,
+    name: &[u8],
+    draft: &Draft,
+    units: &mut Units,
+) -> Result<(), FunctionRefusal>
+    requires { IsReady sig.old }
+    ensures answer { Elaborates (λ _. sig.new) result units.new.left (spec.draft_opened sig.old name.now (draft_of draft.now) units.old.left) }
+    ensures sum { units.new.left + units.new.spent ≡ units.old.left + units.old.spent }
+    ensures spends { units.new.left ≤ units.old.left }
+    ensures longer { Extends sig.old sig.new }
+    ensures ready { IfOk result (λ _. IsOpen sig.new) }
+{
+    if !is_open(sig) {
+        return Err(FunctionRefusal::Stop(Stop::Deep));
+    }
+    enter(alloc, sig, name, draft, units)
+}

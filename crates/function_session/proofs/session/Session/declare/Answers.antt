@@ -1,46 +1,65 @@
-use Rattle.std.proofs.Common.{◌≡◌, IfOk, length, subst as transport}
+use Rattle.std.proofs.Common.{◌≡◌, IfOk, OnErr, OnOk, length, subst as transport}
 use Rattle.theory.specs.Signatures.{IsPrefix}
 use Rattle.theory.proofs.Pushing.{prefix_reflexive}
 use Rattle.surface_syntax.specs.TreeMeanings.{decl_of}
 use Rattle.clause_reports.proofs.Keeping.{weaker}
 use Rattle.elab_session.specs.Sessions.{IsReady}
-use Rattle.function_session.specs.Elaborating.{elaborate_of}
-use Rattle.function_session.specs.Laws.{KeepsReady, IsAsWritten}
-use Rattle.function_session.specs.Meanings.{elaborated_in}
+use Rattle.function_session.specs.Declaring.{declared_in, with_declared}
+use Rattle.function_session.specs.Laws.{KeepsReady, IsAsDeclared}
+use Rattle.function_session.specs.Meanings.{Answers, elaborated_in}
 use Rattle.function_session.specs.Sessions.{Session}
 use Rattle.function_session.proofs.Answering.{says, stays}
-use Rattle.function_session.proofs.Keeping.{elaborate-ready}
-use Rattle.function_session.proofs.Written.{elaborates-written}
+use Rattle.function_session.proofs.SessionAnswers.{session-next, session-same, session_of}
+use Rattle.function_session.proofs.HeldDecisions.{declare-ready, declares-written}
 use Rattle.function_session.proofs.session.Session.declare.Goals as goal
 
 pub invariant_of-self : goal.invariant_of-self
 invariant_of-self c =
-    stays IsReady _ _ _ _ c.elaborate.ensures.answer c.elaborate.ensures.err
-    (weaker (KeepsReady c.self.inside.sig) (λ a. IsReady a.signature) (elaborate_of c.self.inside.sig c.self.inside.fuel (decl_of c.args.d.now))
-    (λ a h. h.ready) (elaborate-ready c.self.inside.sig c.self.inside.fuel (decl_of c.args.d.now) c.self.invariant))
+    let s = session_of c.self.inside.sig c.self.inside.decisions.items c.self.inside.fuel in
+    let d = decl_of c.args.d.now in
+    stays IsReady _ _ _ _ c.declare.ensures.answer c.declare.ensures.err
+    (weaker (KeepsReady s.signature) (λ a. IsReady a.signature) (declared_in s d) (λ a h. h.ready) (declare-ready s d c.self.invariant))
     c.self.invariant
+
+pub returns-clause-answer : goal.returns-clause-answer
+returns-clause-answer c =
+    transport (λ (s : Session). Answers c.declare.new.sig c.declare.result (declared_in s (decl_of c.args.d.now))) c.self.view_is
+    c.declare.ensures.answer
+
+pub returns-clause-err : goal.returns-clause-err
+returns-clause-err c =
+    transport (λ (s : Session). OnErr c.declare.result (session_of c.declare.new.sig c.declare.new.decisions.items c.self.inside.fuel ≡ s)) c.self.view_is
+    (session-same c.declare.new.sig c.self.inside.sig c.declare.new.decisions.items c.self.inside.decisions.items c.self.inside.fuel c.declare.result c.declare.ensures.err c.declare.ensures.forgotten)
+
+pub returns-clause-next : goal.returns-clause-next
+returns-clause-next c =
+    transport (λ (s : Session). OnOk c.declare.result (session_of c.declare.new.sig c.declare.new.decisions.items c.self.inside.fuel ≡ with_declared s (decl_of c.args.d.now) c.declare.new.sig)) c.self.view_is
+    (session-next c.self.inside.sig c.declare.new.sig c.self.inside.decisions.items c.declare.new.decisions.items c.self.inside.fuel (decl_of c.args.d.now) c.declare.result c.declare.ensures.kept)
 
 pub returns-clause-ready : goal.returns-clause-ready
 returns-clause-ready c =
-    stays IsReady _ _ _ _ c.elaborate.ensures.answer c.elaborate.ensures.err
-    (weaker (KeepsReady c.self.inside.sig) (λ a. IsReady a.signature) (elaborate_of c.self.inside.sig c.self.inside.fuel (decl_of c.args.d.now))
-    (λ a h. h.ready) (elaborate-ready c.self.inside.sig c.self.inside.fuel (decl_of c.args.d.now) c.self.invariant))
+    let s = session_of c.self.inside.sig c.self.inside.decisions.items c.self.inside.fuel in
+    let d = decl_of c.args.d.now in
+    stays IsReady _ _ _ _ c.declare.ensures.answer c.declare.ensures.err
+    (weaker (KeepsReady s.signature) (λ a. IsReady a.signature) (declared_in s d) (λ a h. h.ready) (declare-ready s d c.self.invariant))
     c.self.invariant
 
 pub returns-clause-longer : goal.returns-clause-longer
 returns-clause-longer c =
-    transport (λ (s : Session). IsPrefix s.signature c.elaborate.new.sig) c.self.view_is
-    (stays (IsPrefix c.self.inside.sig) _ _ _ _ c.elaborate.ensures.answer c.elaborate.ensures.err
-    (weaker (KeepsReady c.self.inside.sig) (λ a. IsPrefix c.self.inside.sig a.signature) (elaborate_of c.self.inside.sig c.self.inside.fuel (decl_of c.args.d.now))
-    (λ a h. h.longer) (elaborate-ready c.self.inside.sig c.self.inside.fuel (decl_of c.args.d.now) c.self.invariant))
-    (prefix_reflexive c.self.inside.sig))
+    let s = session_of c.self.inside.sig c.self.inside.decisions.items c.self.inside.fuel in
+    let d = decl_of c.args.d.now in
+    transport (λ (s : Session). IsPrefix s.signature c.declare.new.sig) c.self.view_is
+    (stays (IsPrefix s.signature) _ _ _ _ c.declare.ensures.answer c.declare.ensures.err
+    (weaker (KeepsReady s.signature) (λ a. IsPrefix s.signature a.signature) (declared_in s d) (λ a h. h.longer) (declare-ready s d c.self.invariant))
+    (prefix_reflexive s.signature))
 
 pub returns-clause-written : goal.returns-clause-written
 returns-clause-written c =
-    transport (λ (s : Session). IfOk c.elaborate.result (λ a. IsAsWritten s.signature s.fuel (decl_of c.args.d.now) (elaborated_in c.elaborate.new.sig a))) c.self.view_is
-    (says (IsAsWritten c.self.inside.sig c.self.inside.fuel (decl_of c.args.d.now)) _ _ _ c.elaborate.ensures.answer
-    (elaborates-written c.self.inside.sig c.self.inside.fuel (decl_of c.args.d.now) c.self.invariant))
+    let s = session_of c.self.inside.sig c.self.inside.decisions.items c.self.inside.fuel in
+    let d = decl_of c.args.d.now in
+    transport (λ (s : Session). IfOk c.declare.result (λ a. IsAsDeclared s d (elaborated_in c.declare.new.sig a))) c.self.view_is
+    (says (IsAsDeclared s d) _ _ _ c.declare.ensures.answer (declares-written s d c.self.invariant))
 
 pub returns-clause-begins : goal.returns-clause-begins
 returns-clause-begins c =
-    transport (λ (s : Session). IfOk c.elaborate.result (λ a. a.from ≡ length s.signature.entries)) c.self.view_is c.elaborate.ensures.begins
+    transport (λ (s : Session). IfOk c.declare.result (λ a. a.from ≡ length s.signature.entries)) c.self.view_is c.declare.ensures.begins

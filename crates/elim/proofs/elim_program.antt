@@ -1,0 +1,22 @@
+pub mod Accepted
+mod ElaboratedInLine
+pub mod DecisionNames
+pub mod Entries
+mod FileLines
+pub mod FirstNames
+pub mod Following
+mod FunctionInLine
+mod FunctionTexts
+pub mod Lines
+pub mod NewSessions
+pub mod OneOutput
+pub mod OutputInLine
+pub mod Reading
+pub mod RefusedBlocks
+pub mod Shown
+pub mod TextLines
+mod Verified
+mod Whole
+mod WorkCounts
+pub mod WorkLines
+mod Writing

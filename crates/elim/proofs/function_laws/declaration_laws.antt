@@ -1,0 +1,8 @@
+pub mod Declarations
+pub mod EnteringDrafts
+pub mod ExtendedReports
+pub mod ExtendedFunctions
+pub mod UnmarkedEntries
+pub mod UnmarkedFamilies
+pub mod UnmarkedDeclarations
+pub mod Texts

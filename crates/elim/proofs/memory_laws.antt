@@ -1,0 +1,16 @@
+pub mod Runs
+pub mod Kernel
+pub mod Families
+pub mod Names
+pub mod Declared
+pub mod Unifying
+pub mod Walks
+pub mod Drafts
+pub mod ProofWalks
+pub mod Reports
+pub mod Clauses
+pub mod Functions
+pub mod Decisions
+pub mod Stated
+pub mod Meant
+pub mod CoreReading

@@ -1,0 +1,10 @@
+pub mod Chains
+pub mod Decisions
+pub mod Declarations
+pub mod Ends
+pub mod FunctionCauses
+pub mod PartScopes
+pub mod PlanCauses
+pub mod Rejections
+pub mod ReportCauses
+pub mod WalkCauses

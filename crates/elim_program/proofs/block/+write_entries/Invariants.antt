@@ -1,4 +1,0 @@
-use Rattle.elim_program.proofs.block.+write_entries.Given as goal
-
-abbrev pub decreases-write_entries : goal.decreases-write_entries
-decreases-write_entries l = l.count

@@ -1,5 +1,0 @@
-use Rattle.std.proofs.Common.{length}
-use Rattle.elim_program.proofs.counts.+all_counted.Given as goal
-
-abbrev pub decreases-all_counted : goal.decreases-all_counted
-decreases-all_counted l = length l.lines.now

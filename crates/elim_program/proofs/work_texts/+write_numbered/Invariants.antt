@@ -1,5 +1,0 @@
-use Rattle.std.proofs.Common.{length}
-use Rattle.elim_program.proofs.work_texts.+write_numbered.Given as goal
-
-abbrev pub decreases-write_numbered : goal.decreases-write_numbered
-decreases-write_numbered l = length l.text.now

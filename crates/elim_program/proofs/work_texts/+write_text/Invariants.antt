@@ -1,4 +1,0 @@
-use Rattle.elim_program.proofs.work_texts.+write_text.Given as goal
-
-abbrev pub decreases-write_text : goal.decreases-write_text
-decreases-write_text l = l.count

@@ -1,5 +1,0 @@
-use Rattle.function_laws.proofs.declaration_laws.Texts.{words-unmarked}
-use Rattle.function_laws.proofs.declaration_laws.words_are_unmarked.Goals as goal
-
-pub returns : goal.returns
-returns c = words-unmarked

@@ -1,5 +1,0 @@
-use Rattle.headline.proofs.Accepted.{the-shown}
-use Rattle.headline.proofs.laws.accepted_is_the_shown.Goals as goal
-
-pub returns : goal.returns
-returns c = the-shown c.accepted_is_shown.ensures c.gives_by_the_grammar.ensures c.functions_are_by_clauses.ensures

@@ -1,5 +1,0 @@
-use Rattle.headline.proofs.line_laws.Functions.{declaration-reports}
-use Rattle.headline.proofs.line_laws.declaration_reports.Goals as goal
-
-pub returns : goal.returns
-returns c = declaration-reports

@@ -1,5 +1,0 @@
-use Rattle.headline.proofs.line_laws.Functions.{function-reports}
-use Rattle.headline.proofs.line_laws.function_reports.Goals as goal
-
-pub returns : goal.returns
-returns c = function-reports

@@ -1,5 +1,0 @@
-use Rattle.headline.proofs.meaning_laws.Meanings.{compiled-meant}
-use Rattle.headline.proofs.meaning_laws.compiled_is_meant.Goals as goal
-
-pub returns : goal.returns
-returns c = compiled-meant c.lines_are_meant.ensures

@@ -1,5 +1,0 @@
-use Rattle.headline.proofs.meaning_laws.Meanings.{lines-meant}
-use Rattle.headline.proofs.meaning_laws.lines_are_meant.Goals as goal
-
-pub returns : goal.returns
-returns c = lines-meant c.text_is_meant.ensures

@@ -1,5 +1,0 @@
-use Rattle.headline.proofs.meaning_laws.Meanings.{run-meant}
-use Rattle.headline.proofs.meaning_laws.run_is_meant.Goals as goal
-
-pub returns : goal.returns
-returns c = run-meant c.compiled_is_meant.ensures

@@ -1,5 +1,0 @@
-use Rattle.headline.proofs.meaning_laws.Completions.{runs-agree}
-use Rattle.headline.proofs.meaning_laws.runs_agree.Goals as goal
-
-pub returns : goal.returns
-returns c = runs-agree

@@ -1,5 +1,0 @@
-use Rattle.headline.proofs.meaning_laws.Meanings.{work-meant}
-use Rattle.headline.proofs.meaning_laws.work_is_meant.Goals as goal
-
-pub returns : goal.returns
-returns c = work-meant c.text_is_meant.ensures

@@ -1,5 +1,0 @@
-use Rattle.headline.proofs.program_laws.AnswersRead.{reads_by_the_grammar}
-use Rattle.headline.proofs.program_laws.reads_by_the_grammar.Goals as goal
-
-pub returns : goal.returns
-returns c = reads_by_the_grammar

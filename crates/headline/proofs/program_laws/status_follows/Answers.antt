@@ -1,5 +1,0 @@
-use Rattle.headline.proofs.program_laws.LastLines.{status_follows}
-use Rattle.headline.proofs.program_laws.status_follows.Goals as goal
-
-pub returns : goal.returns
-returns c = status_follows

@@ -1,5 +1,0 @@
-use Rattle.headline.proofs.program_laws.LinesWithoutK.{verified_without_k}
-use Rattle.headline.proofs.program_laws.verified_without_k.Goals as goal
-
-pub returns : goal.returns
-returns c = verified_without_k

@@ -1,5 +1,0 @@
-use Rattle.headline.proofs.verified_laws.CoreFiles.{accepted-verified}
-use Rattle.headline.proofs.verified_laws.accepted_is_verified.Goals as goal
-
-pub returns : goal.returns
-returns c = accepted-verified

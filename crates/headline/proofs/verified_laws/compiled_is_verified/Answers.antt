@@ -1,5 +1,0 @@
-use Rattle.headline.proofs.verified_laws.Compiled.{compiled-verified}
-use Rattle.headline.proofs.verified_laws.compiled_is_verified.Goals as goal
-
-pub returns : goal.returns
-returns c = compiled-verified

@@ -1,5 +1,0 @@
-use Rattle.headline.proofs.verified_laws.CoreFiles.{core_file-verified}
-use Rattle.headline.proofs.verified_laws.core_file_is_verified.Goals as goal
-
-pub returns : goal.returns
-returns c = core_file-verified

@@ -1,5 +1,0 @@
-use Rattle.headline.proofs.verified_laws.Written.{lines_are_writable}
-use Rattle.headline.proofs.verified_laws.lines.lines_are_writable.Goals as goal
-
-pub returns : goal.returns
-returns c = lines_are_writable

@@ -1,0 +1,9 @@
+pub mod Equations
+pub mod Fitting
+pub mod InductionLaws
+pub mod Inductions
+pub mod Members
+pub mod MutualFamilies
+pub mod PackedEntries
+pub mod Packing
+pub mod PackingLaws

@@ -1,0 +1,28 @@
+//! What is packed, in the words of the theory.
+ghost use Rattle.mutual_pack.specs.InductionLaws.{InductionUnfolds};
+ghost use Rattle.mutual_pack.specs.PackingLaws.{LevelIsLow, MembersUnfold, NoMemberIsLeft, PackedIsPositive};
+
+/// The level of what is packed leaves room for two levels above it.
+pub fn level_is_low()
+    ensures { LevelIsLow }
+{}
+
+/// No member is left in the type of a constructor of the packed family.
+pub fn no_member_is_left()
+    ensures { NoMemberIsLeft }
+{}
+
+/// The packed family is positive.
+pub fn packed_is_positive()
+    ensures { PackedIsPositive }
+{}
+
+/// The type of each constructor as packed converts to the written one, where the members are their definitions.
+pub fn members_unfold()
+    ensures { MembersUnfold }
+{}
+
+/// An induction converts to the eliminator of the packed family.
+pub fn induction_unfolds()
+    ensures { InductionUnfolds }
+{}

@@ -1,9 +1,0 @@
-pub mod Chains
-pub mod Declarations
-pub mod Ends
-pub mod FunctionCauses
-pub mod PartScopes
-pub mod PlanCauses
-pub mod Rejections
-pub mod ReportCauses
-pub mod WalkCauses

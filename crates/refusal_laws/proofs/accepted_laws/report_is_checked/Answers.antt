@@ -1,5 +1,0 @@
-use Rattle.refusal_laws.proofs.accepted_laws.Reports.{report-is-checked}
-use Rattle.refusal_laws.proofs.accepted_laws.report_is_checked.Goals as goal
-
-pub returns : goal.returns
-returns c = report-is-checked

@@ -1,5 +1,0 @@
-use Rattle.refusal_laws.proofs.unit_laws.Reducing.{head_step-steady}
-use Rattle.refusal_laws.proofs.unit_laws.head_step_is_steady.Goals as goal
-
-pub returns : goal.returns
-returns c = head_step-steady

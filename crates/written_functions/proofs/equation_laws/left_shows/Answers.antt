@@ -1,5 +1,0 @@
-use Rattle.written_functions.proofs.equation_laws.LeftShowing.{left-shows}
-use Rattle.written_functions.proofs.equation_laws.left_shows.Goals as goal
-
-pub returns : goal.returns
-returns c = left-shows

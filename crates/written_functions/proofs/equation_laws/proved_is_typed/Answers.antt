@@ -1,5 +1,0 @@
-use Rattle.written_functions.proofs.equation_laws.ProvedClauses.{proved-is_typed}
-use Rattle.written_functions.proofs.equation_laws.proved_is_typed.Goals as goal
-
-pub returns : goal.returns
-returns c = proved-is_typed

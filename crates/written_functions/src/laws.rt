@@ -1,8 +1,0 @@
-//! The law of functions by clauses.
-ghost use Rattle.written_functions.specs.Laws.{FunctionsAreByClauses};
-
-/// An accepted function by clauses is the one that is written: each of its lines is true of its written clause. Its parts and its
-/// values are those of the plan of the run.
-pub fn functions_are_by_clauses()
-    ensures { FunctionsAreByClauses }
-{}
