@@ -4,7 +4,7 @@ ghost use Rattle.core_terms.specs.declared.stop.Stop.TheVariants.{Memory};
 use core_terms::Stop;
 
 /// Writes bytes.
-pub(crate) fn write(out: &mut Vec<u8>, bytes: &[u8]) -> Result<(), Stop>
+pub fn write(out: &mut Vec<u8>, bytes: &[u8]) -> Result<(), Stop>
     ensures ok { OnOk result (out.new.items ≡ out.old.items ++ bytes.now) }
     ensures memory { OnErr result (result ≡ Err Memory) }
 {
@@ -13,7 +13,7 @@ pub(crate) fn write(out: &mut Vec<u8>, bytes: &[u8]) -> Result<(), Stop>
 }
 
 /// Writes bytes and a number after them.
-pub(crate) fn write_numbered(out: &mut Vec<u8>, before: &[u8], n: u64) -> Result<(), Stop>
+pub fn write_numbered(out: &mut Vec<u8>, before: &[u8], n: u64) -> Result<(), Stop>
     ensures ok { OnOk result (out.new.items ≡ out.old.items ++ before.now ++ decimal n) }
     ensures memory { OnErr result (result ≡ Err Memory) }
 {

@@ -26,7 +26,7 @@ fn read_parameter<'t>(
     Ok((Some(ty), past(b")", rest)?))
 }
 
-fn no_parameter(rest: &[u8]) -> Result<(Option<Term>, &[u8]), Halt>
+pub fn no_parameter(rest: &[u8]) -> Result<(Option<Term>, &[u8]), Halt>
     ensures { Reads (option_map tree_of) result (spec.no_parameter rest.now) }
 {
     Ok((None, past(b": ", rest)?))
@@ -81,7 +81,7 @@ fn read_constructor<'t>(
 }
 
 /// Past the semicolon between a constructor and those before it.
-fn separated<'t>(found: &[RawCon], rest: &'t [u8]) -> Result<&'t [u8], Halt>
+pub fn separated<'t>(found: &[RawCon], rest: &'t [u8]) -> Result<&'t [u8], Halt>
     ensures { Past result (spec.separated (map raw_constructor_of found.now) rest.now) }
 {
     if found.is_empty() {

@@ -175,7 +175,7 @@ fn copied(alloc: Global, name: &[u8]) -> Result<Name, Halt>
 }
 
 /// A name that may be declared after the constructors that were found.
-pub(crate) fn new_name<'t>(
+pub fn new_name<'t>(
     scope: &Scope,
     found: &[RawCon],
     rest: &'t [u8],

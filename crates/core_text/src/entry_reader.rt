@@ -75,14 +75,14 @@ fn entry_after(
 }
 
 /// The offset of a place with so many bytes after it.
-fn offset(size: u32, left: usize) -> u32
+pub fn offset(size: u32, left: usize) -> u32
     ensures { result ≡ size - left }
 {
     (size as usize).saturating_sub(left) as u32
 }
 
 /// The place where reading stops by its offset.
-fn stop_at(size: u32, halt: Halt) -> CoreTextStop
+pub fn stop_at(size: u32, halt: Halt) -> CoreTextStop
     ensures { result ≡ spec.stop_of size halt }
 {
     match halt {
@@ -93,7 +93,7 @@ fn stop_at(size: u32, halt: Halt) -> CoreTextStop
 }
 
 /// The bytes after the lines that begin with `#`.
-fn after_notes(from: &[u8]) -> Result<&[u8], Halt>
+pub fn after_notes(from: &[u8]) -> Result<&[u8], Halt>
     ensures { Past result (spec.after_notes false from.now) }
 {
     let mut rest = from;
@@ -112,7 +112,7 @@ fn after_notes(from: &[u8]) -> Result<&[u8], Halt>
 }
 
 /// The entry that a line shows, or the place where the line begins, by the bytes left there.
-fn shown_entry(scope: &Scope, line: Line, start: usize) -> Result<Entry, Halt>
+pub fn shown_entry(scope: &Scope, line: Line, start: usize) -> Result<Entry, Halt>
     ensures is_shown { IfOk result (λ e. spec.shows_entry (length scope.now.sig.now.entries) (line_of line) ≡ true) }
     ensures shown { IfOk result (λ e. entry_shown (length scope.now.sig.now.entries) (entry_of e) ≡ line_of line) }
     ensures kinds { IfOk result (HasEntryKinds (length scope.now.sig.now.entries)) }

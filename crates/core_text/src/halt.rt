@@ -8,7 +8,7 @@ use std::alloc::{AllocError, AllocFailed};
 /// `Nested` is a term inside too many terms or one that is too high. `Wrong` is a byte with which no core file goes on,
 /// or the first byte of a name that may not be there.
 #[derive(Clone, Copy, Debug, PartialEq, Eq)]
-pub(crate) enum Halt {
+pub enum Halt {
     Memory,
     Nested(usize),
     Wrong(usize),

@@ -28,7 +28,7 @@ pub fn read_head(text: &[u8], k: bool) -> Result<(bool, u32), CoreTextStop>
 
 #[tactic(auto, using(crate::proofs::Sharing::shared_past))]
 /// How many bytes the texts share at their beginning.
-pub(crate) fn shared_len(text: &[u8], other: &[u8]) -> usize
+pub fn shared_len(text: &[u8], other: &[u8]) -> usize
     ensures shared { result ≡ shared text.now other.now }
     ensures within { result ≤ length text.now }
     ensures short { result ≤ length other.now }

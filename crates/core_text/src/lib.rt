@@ -1,32 +1,32 @@
 //! Core text: one spelling for each term and one line for each entry of a signature.
 #![tactic(auto)]
 
-mod bytes;
-mod data_reader;
-mod declared_names;
+pub mod bytes;
+pub mod data_reader;
+pub mod declared_names;
 mod entry_printer;
-mod entry_reader;
-mod halt;
-mod head;
+pub mod entry_reader;
+pub mod halt;
+pub mod head;
 mod instances;
 mod laws;
 mod levels;
-mod line;
-mod line_reader;
+pub mod line;
+pub mod line_reader;
 mod lookup;
-mod names;
+pub mod names;
 mod records;
 mod runs;
-mod scanning;
-mod scope;
+pub mod scanning;
+pub mod scope;
 mod spines;
 mod stop;
 mod symbols;
 mod telescopes;
-mod term_printer;
-mod term_reader;
+pub mod term_printer;
+pub mod term_reader;
 mod texts;
-mod whole_terms;
+pub mod whole_terms;
 
 pub use bytes::write_number;
 pub use entry_printer::print_entry;

@@ -21,7 +21,7 @@ use core_sig::Signature;
 use core_terms::Term;
 
 /// The line feed that ends a line.
-pub(crate) fn end(line: Line, rest: &[u8]) -> Result<(Line, &[u8]), Halt>
+pub fn end(line: Line, rest: &[u8]) -> Result<(Line, &[u8]), Halt>
     ensures { Reads line_of result (spec.ended (line_of line) rest.now) }
 {
     Ok((line, past(b"\n", rest)?))
@@ -47,7 +47,7 @@ fn family_name<'t>(sig: &Signature, rest: &'t [u8]) -> Result<(u32, &'t [u8]), H
     }
 }
 
-fn read_eliminator<'t>(scope: &Scope, rest: &'t [u8]) -> Result<(Line, &'t [u8]), Halt>
+pub fn read_eliminator<'t>(scope: &Scope, rest: &'t [u8]) -> Result<(Line, &'t [u8]), Halt>
     ensures { Reads line_of result (spec.eliminator_at scope.now.sig.now rest.now) }
 {
     let (family, rest) = family_name(scope.sig, rest)?;
@@ -56,7 +56,7 @@ fn read_eliminator<'t>(scope: &Scope, rest: &'t [u8]) -> Result<(Line, &'t [u8])
     end(Line::Elim(family, level), rest)
 }
 
-fn read_axiom_k<'t>(scope: &Scope, rest: &'t [u8]) -> Result<(Line, &'t [u8]), Halt>
+pub fn read_axiom_k<'t>(scope: &Scope, rest: &'t [u8]) -> Result<(Line, &'t [u8]), Halt>
     ensures { Reads line_of result (spec.axiom_k_line scope.now.sig.now rest.now) }
 {
     let (i, rest) = read_level(scope.sig, Choice::Identity, rest)?;

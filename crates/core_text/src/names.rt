@@ -17,7 +17,7 @@ pub(crate) fn name_at(sig: &Signature, at: u32) -> &[u8]
 
 /// The name of the definition or family with the number, where `own` is the name of the entry with the next number, which is
 /// being declared.
-pub(crate) fn name_with<'a>(sig: &'a Signature, own: Option<&'a [u8]>, at: u32) -> &'a [u8]
+pub fn name_with<'a>(sig: &'a Signature, own: Option<&'a [u8]>, at: u32) -> &'a [u8]
     ensures { result.now ≡ name_at (with_own sig.now (option_copied own.entry)) at }
 {
     match own {

@@ -6,7 +6,7 @@ use crate::halt::Halt;
 use crate::head::shared_len;
 
 /// The first byte, or 0.
-pub(crate) fn first(rest: &[u8]) -> u8
+pub fn first(rest: &[u8]) -> u8
     ensures { result ≡ slice_index rest.now 0 }
 {
     match rest {
@@ -16,21 +16,21 @@ pub(crate) fn first(rest: &[u8]) -> u8
 }
 
 /// The bytes after the first `len`.
-pub(crate) fn skip(rest: &[u8], len: usize) -> &[u8]
+pub fn skip(rest: &[u8], len: usize) -> &[u8]
     ensures { result.now ≡ drop len rest.now }
 {
     rest.get(len..).unwrap_or(&[])
 }
 
 /// Whether the bytes begin with the word.
-pub(crate) fn begins(word: &[u8], rest: &[u8]) -> bool
+pub fn begins(word: &[u8], rest: &[u8]) -> bool
     ensures { result ≡ begins word.now rest.now }
 {
     shared_len(rest, word) == word.len()
 }
 
 /// The bytes after a word.
-pub(crate) fn past<'t>(word: &[u8], rest: &'t [u8]) -> Result<&'t [u8], Halt>
+pub fn past<'t>(word: &[u8], rest: &'t [u8]) -> Result<&'t [u8], Halt>
     ensures { Past result (past word.now rest.now) }
 {
     let len = shared_len(rest, word);
@@ -48,7 +48,7 @@ pub(crate) fn is_digit(byte: u8) -> bool
 }
 
 /// A number below `bound`, in decimal.
-pub(crate) fn read_index(bound: u32, rest: &[u8]) -> Result<(u32, &[u8]), Halt>
+pub fn read_index(bound: u32, rest: &[u8]) -> Result<(u32, &[u8]), Halt>
     ensures reads { Reads (λ n. n) result (spec.read_index bound rest.now) }
     ensures below { IfOk result (λ p. p.0 < bound) }
 {

@@ -24,7 +24,7 @@ pub fn print_term(alloc: Global, sig: &Signature, t: &Term) -> Result<Items<u8>,
 
 /// Writes the text of a term. `own` is the name that is being declared, if any is; `is_function` where the term is
 /// the function of an application.
-pub(crate) fn write_term(
+pub fn write_term(
     out: &mut Vec<u8>,
     sig: &Signature,
     own: Option<&[u8]>,

@@ -18,7 +18,7 @@ use core_terms::{Low, MAX_HEIGHT, TOP, Term};
 const SORTS: u32 = TOP as u32 + 1;
 
 /// The term, where it is not too high.
-fn limited(term: Term, height: u32, rest: &[u8]) -> Result<(Low, &[u8]), Halt>
+pub fn limited(term: Term, height: u32, rest: &[u8]) -> Result<(Low, &[u8]), Halt>
     requires { height ≡ tree.height (tree_of term) }
     ensures { Reads low_of result (spec.limited (tree_of term) rest.now) }
 {
@@ -29,14 +29,14 @@ fn limited(term: Term, height: u32, rest: &[u8]) -> Result<(Low, &[u8]), Halt>
 }
 
 /// The term and the parenthesis that closes it.
-fn close(term: Term, height: u32, rest: &[u8]) -> Result<(Low, &[u8]), Halt>
+pub fn close(term: Term, height: u32, rest: &[u8]) -> Result<(Low, &[u8]), Halt>
     requires { height ≡ tree.height (tree_of term) }
     ensures { Reads low_of result (spec.closed_by (tree_of term) rest.now) }
 {
     limited(term, height, past(b")", rest)?)
 }
 
-fn is_application(t: &Term) -> bool
+pub fn is_application(t: &Term) -> bool
     ensures { result ≡ spec.is_application (tree_of t.now) }
 {
     match t {
@@ -46,7 +46,7 @@ fn is_application(t: &Term) -> bool
     }
 }
 
-fn read_variable(under: u32, rest: &[u8]) -> Result<(Low, &[u8]), Halt>
+pub fn read_variable(under: u32, rest: &[u8]) -> Result<(Low, &[u8]), Halt>
     ensures { Reads low_of result (spec.variable_at under rest.now) }
 {
     if under == 0 {
@@ -64,7 +64,7 @@ fn read_sort(rest: &[u8]) -> Result<(Low, &[u8]), Halt>
 }
 
 /// A sort or a symbol.
-fn read_named<'t>(scope: &Scope, rest: &'t [u8]) -> Result<(Low, &'t [u8]), Halt>
+pub fn read_named<'t>(scope: &Scope, rest: &'t [u8]) -> Result<(Low, &'t [u8]), Halt>
     ensures { Reads low_of result (spec.named (look_of scope.now) (run_len rest.now) rest.now) }
 {
     let len = run_len(rest);

@@ -13,7 +13,7 @@ use crate::term_reader::read_term;
 use core_terms::{MAX_HEIGHT, Term};
 
 /// A number of parameters, or Memory where there are too many to count those of a term as well.
-fn binders(count: usize) -> Result<u32, Halt>
+pub fn binders(count: usize) -> Result<u32, Halt>
     ensures ok { IfOk result (λ n. n ≡ count) }
     ensures few { IfOk result (λ n. n + 2001 < 2 ^ 32) }
     ensures memory { OnErr result (result ≡ Err Memory) }
@@ -26,7 +26,7 @@ fn binders(count: usize) -> Result<u32, Halt>
 
 /// How many terms may be nested.
 #[tactic(auto, unfolding(crate::specs::LineReading::nested))]
-fn most_nested() -> u32
+pub fn most_nested() -> u32
     ensures value { result ≡ nested }
     ensures few { result ≤ most_height }
 {

@@ -11,7 +11,10 @@ mod orders;
 mod positions;
 mod terms;
 
-pub use admission::{Admission, find_admission};
+pub use admission::{Admission, admission_from, find_admission};
 pub use choice::{Choice, Failing, Use};
 pub use choosing::choose_position;
-pub use orders::recursion_order;
+pub use fitting::{Place, fits};
+pub use orders::{recursion_order, recursive_positions, unless_among};
+pub use positions::{fixed_below, positions_of};
+pub use terms::small_term_at;

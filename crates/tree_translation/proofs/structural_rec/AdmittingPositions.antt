@@ -49,7 +49,7 @@ pub record ArePositions (j : ℕ) (terms : List Term) (is : List ℕ) : Type 0 w
   pub form : terms ≡ map (variable j) is
   pub before : All (λ i. i < j) is
 
-positions-tells : (j : ℕ) (terms : List Term) (is : List ℕ) → positions_of j terms ≡ Some is → ArePositions j terms is
+pub positions-tells : (j : ℕ) (terms : List Term) (is : List ℕ) → positions_of j terms ≡ Some is → ArePositions j terms is
 positions-tells j [] is h = subst (ArePositions j []) (some_is h) (record { form = refl; before = All-nil (λ i. i < j) })
 positions-tells j (t ∷ terms) is h = by (position_of j t) refl (positions_of j terms) (λ others d. positions-tells j terms others d) h
   where
@@ -63,7 +63,7 @@ positions-tells j (t ∷ terms) is h = by (position_of j t) refl (positions_of j
         subst (ArePositions j (t ∷ terms)) (some_is h)
         (record { form = ap₂ (λ u us. u ∷ us) one.0 later.form; before = All-cons (λ k. k < j) i others one.1 later.before })
 
-positions-found : (j : ℕ) (is : List ℕ) → All (λ i. i < j) is → positions_of j (map (variable j) is) ≡ Some is
+pub positions-found : (j : ℕ) (is : List ℕ) → All (λ i. i < j) is → positions_of j (map (variable j) is) ≡ Some is
 positions-found j [] h = refl
 positions-found j (i ∷ is) h =
     ap₂ (λ o r. option_and_then (λ k. option_map (λ others. k ∷ others) r) o) (position-found j i (All-head (λ k. k < j) i is h))
@@ -86,13 +86,13 @@ among-not x (y ∷ xs) h =
     by true e = absurd (All-head (λ k. x ≢ k) y xs h (sym ((Decides-eqb y x).0 e)))
     by false e = refl
 
-different-tells : (xs : List ℕ) → are_different xs ≡ true → AllPairs (λ i k. i ≢ k) xs
+pub different-tells : (xs : List ℕ) → are_different xs ≡ true → AllPairs (λ i k. i ≢ k) xs
 different-tells [] h = λ i k d lt within. absurd (omega arith)
 different-tells (x ∷ xs) h =
     let parts = and-tells (not (is_among x xs)) (are_different xs) h in
     AllPairs-cons (λ i k. i ≢ k) x xs (not-among x xs (not-true (is_among x xs) parts.0)) (different-tells xs parts.1)
 
-different-found : (xs : List ℕ) → AllPairs (λ i k. i ≢ k) xs → are_different xs ≡ true
+pub different-found : (xs : List ℕ) → AllPairs (λ i k. i ≢ k) xs → are_different xs ≡ true
 different-found [] h = refl
 different-found (x ∷ xs) h =
     and_from (not (is_among x xs)) (are_different xs)
@@ -112,14 +112,14 @@ none-found p [] h = refl
 none-found p (x ∷ xs) h =
     or_from (p x) (list_any p xs) (All-head (λ k. p k ≡ false) x xs h) (none-found p xs (All-tail (λ k. p k ≡ false) x xs h))
 
-in-order-tells : (tele : List Term) (xs : List ℕ) → are_in_order tele xs ≡ true → AllPairs (λ i k. mentions tele i k ≡ false) xs
+pub in-order-tells : (tele : List Term) (xs : List ℕ) → are_in_order tele xs ≡ true → AllPairs (λ i k. mentions tele i k ≡ false) xs
 in-order-tells tele [] h = λ i k d lt within. absurd (omega arith)
 in-order-tells tele (x ∷ xs) h =
     let parts = and-tells (not (list_any (mentions tele x) xs)) (are_in_order tele xs) h in
     AllPairs-cons (λ i k. mentions tele i k ≡ false) x xs
     (none-tells (mentions tele x) xs (not-true (list_any (mentions tele x) xs) parts.0)) (in-order-tells tele xs parts.1)
 
-in-order-found : (tele : List Term) (xs : List ℕ) → AllPairs (λ i k. mentions tele i k ≡ false) xs → are_in_order tele xs ≡ true
+pub in-order-found : (tele : List Term) (xs : List ℕ) → AllPairs (λ i k. mentions tele i k ≡ false) xs → are_in_order tele xs ≡ true
 in-order-found tele [] h = refl
 in-order-found tele (x ∷ xs) h =
     and_from (not (list_any (mentions tele x) xs)) (are_in_order tele xs)
@@ -128,7 +128,7 @@ in-order-found tele (x ∷ xs) h =
 
 -- ---- mentions in the types of the indices
 
-only-tells : (tele : List Term) (fixed indices : List ℕ) (i n : ℕ) → mentions_only tele fixed indices i n ≡ true → (k : ℕ) → k < n → mentions tele i k ≡ true
+pub only-tells : (tele : List Term) (fixed indices : List ℕ) (i n : ℕ) → mentions_only tele fixed indices i n ≡ true → (k : ℕ) → k < n → mentions tele i k ≡ true
     → (is_among k fixed || is_among k indices) ≡ true
 only-tells tele fixed indices i zero h k lt m = absurd (omega arith)
 only-tells tele fixed indices i (suc n) h k lt m = by (n == k) refl (λ near. only-tells tele fixed indices i n parts.1 k near m)
@@ -147,7 +147,7 @@ only-tells tele fixed indices i (suc n) h k lt m = by (n == k) refl (λ near. on
         let other : n ≢ k = (λ same. false≢true (sym e ∙ (Decides-eqb n k).1 same)) in
         before (grind arith)
 
-only-found : (tele : List Term) (fixed indices : List ℕ) (i n : ℕ) → ((k : ℕ) → mentions tele i k ≡ true → (is_among k fixed || is_among k indices) ≡ true)
+pub only-found : (tele : List Term) (fixed indices : List ℕ) (i n : ℕ) → ((k : ℕ) → mentions tele i k ≡ true → (is_among k fixed || is_among k indices) ≡ true)
     → mentions_only tele fixed indices i n ≡ true
 only-found tele fixed indices i zero h = refl
 only-found tele fixed indices i (suc n) h =
@@ -158,7 +158,7 @@ only-found tele fixed indices i (suc n) h =
     by true h = h refl
     by false h = refl
 
-independent-tells : (tele : List Term) (fixed indices last : List ℕ) → are_independent tele fixed indices last ≡ true → (i : ℕ) → is_among i last ≡ true
+pub independent-tells : (tele : List Term) (fixed indices last : List ℕ) → are_independent tele fixed indices last ≡ true → (i : ℕ) → is_among i last ≡ true
     → (is_among i fixed ≡ false) × (mentions_only tele fixed indices i i ≡ true)
 independent-tells tele fixed indices [] h i among = absurd (false≢true among)
 independent-tells tele fixed indices (x ∷ last) h i among =
@@ -171,7 +171,7 @@ independent-tells tele fixed indices (x ∷ last) h i among =
       | inr later ↦ independent-tells tele fixed indices last parts.1 i later
     ]
 
-independent-found : (tele : List Term) (fixed indices last : List ℕ)
+pub independent-found : (tele : List Term) (fixed indices last : List ℕ)
     → ((i : ℕ) → is_among i last ≡ true → (is_among i fixed ≡ false) × (mentions_only tele fixed indices i i ≡ true))
     → are_independent tele fixed indices last ≡ true
 independent-found tele fixed indices [] h = refl

@@ -59,7 +59,7 @@ finitary-lower n f part finitary (inside {t} {r} is rest) =
 -- ---- no chain goes on for ever
 
 -- only constructors have strict parts
-part-constructor : (n : ℕ) (f : Family) (part : Term) {t : Term} → IsStrictPart n f part t → (number : ℕ) × (head_of t ≡ Con n number)
+pub part-constructor : (n : ℕ) (f : Family) (part : Term) {t : Term} → IsStrictPart n f part t → (number : ℕ) × (head_of t ≡ Con n number)
 part-constructor n f part (itself inner is form) = (is.number, is.head)
 part-constructor n f part (inside is rest) = (is.number, is.head)
 
@@ -73,7 +73,7 @@ argument-takes n f t r is takes u s count number (inl same) function = takes u s
 argument-takes n f t r is takes u s count number (inr part) function = takes u s count number (inr (inside is part)) function
 
 -- a part is lower, or no constructor
-lower-or-none : (n : ℕ) (f : Family) (part : Term) {t : Term} → TakesNoConstructor n f t → IsStrictPart n f part t
+pub lower-or-none : (n : ℕ) (f : Family) (part : Term) {t : Term} → TakesNoConstructor n f t → IsStrictPart n f part t
     → (height part < height t) ⊎ ((number : ℕ) → head_of part ≢ Con n number)
 lower-or-none n f part takes (itself {t} {r} [] is form) = inl (subst (λ u. height u < height t) (sym form) (recursive-low n f t r 0 is))
 lower-or-none n f part takes (itself {t} {r} (a ∷ inner) is form) =

@@ -33,7 +33,7 @@ others-step first from (suc count) xs ys more is =
 
 -- ---- elements of lists
 
-among-tells : (i : ℕ) (xs ys : List ℕ) → is_among i (xs ++ ys) ≡ true → (is_among i xs ≡ true) ⊎ (is_among i ys ≡ true)
+pub among-tells : (i : ℕ) (xs ys : List ℕ) → is_among i (xs ++ ys) ≡ true → (is_among i xs ≡ true) ⊎ (is_among i ys ≡ true)
 among-tells i [] ys h = inr h
 among-tells i (x ∷ xs) ys h = elim (or-tells (x == i) (is_among i (xs ++ ys)) h) [
   | inl here ↦ inl (or_left (x == i) (is_among i xs) here)
@@ -43,14 +43,14 @@ among-tells i (x ∷ xs) ys h = elim (or-tells (x == i) (is_among i (xs ++ ys)) 
   ]
 ]
 
-among-left : (i : ℕ) (xs ys : List ℕ) → is_among i xs ≡ true → is_among i (xs ++ ys) ≡ true
+pub among-left : (i : ℕ) (xs ys : List ℕ) → is_among i xs ≡ true → is_among i (xs ++ ys) ≡ true
 among-left i [] ys h = absurd (false≢true h)
 among-left i (x ∷ xs) ys h = elim (or-tells (x == i) (is_among i xs) h) [
   | inl here ↦ or_left (x == i) (is_among i (xs ++ ys)) here
   | inr later ↦ or_right (x == i) (is_among i (xs ++ ys)) (among-left i xs ys later)
 ]
 
-among-right : (i : ℕ) (xs ys : List ℕ) → is_among i ys ≡ true → is_among i (xs ++ ys) ≡ true
+pub among-right : (i : ℕ) (xs ys : List ℕ) → is_among i ys ≡ true → is_among i (xs ++ ys) ≡ true
 among-right i [] ys h = h
 among-right i (x ∷ xs) ys h = or_right (x == i) (is_among i (xs ++ ys)) (among-right i xs ys h)
 
@@ -59,7 +59,7 @@ all-among : (P : ℕ → Type 0) (xs : List ℕ) → ((i : ℕ) → is_among i x
 all-among P [] h = All-nil P
 all-among P (x ∷ xs) h = All-cons P x xs (h x (among-first x xs)) (all-among P xs (λ i among. h i (among-later i x xs among)))
 
-among-all : (P : ℕ → Type 0) (xs : List ℕ) → All P xs → (i : ℕ) → is_among i xs ≡ true → P i
+pub among-all : (P : ℕ → Type 0) (xs : List ℕ) → All P xs → (i : ℕ) → is_among i xs ≡ true → P i
 among-all P [] h i among = absurd (false≢true among)
 among-all P (x ∷ xs) h i among = elim (or-tells (x == i) (is_among i xs) among) [
   | inl here ↦ subst P ((Decides-eqb x i).0 here) (All-head P x xs h)
@@ -67,7 +67,7 @@ among-all P (x ∷ xs) h i among = elim (or-tells (x == i) (is_among i xs) among
 ]
 
 -- different ones after different ones that are not among them
-once-append : (xs ys : List ℕ) → AllPairs (λ i k. i ≢ k) xs → AllPairs (λ i k. i ≢ k) ys → ((i : ℕ) → is_among i ys ≡ true → is_among i xs ≡ false)
+pub once-append : (xs ys : List ℕ) → AllPairs (λ i k. i ≢ k) xs → AllPairs (λ i k. i ≢ k) ys → ((i : ℕ) → is_among i ys ≡ true → is_among i xs ≡ false)
     → AllPairs (λ i k. i ≢ k) (xs ++ ys)
 once-append xs ys first second apart =
     AllPairs-append (λ i k. i ≢ k) (λ i. is_among i xs ≡ true) (λ i. is_among i xs ≡ false) xs ys
@@ -77,7 +77,7 @@ once-append xs ys first second apart =
 -- ---- rising lists
 
 -- each element is below those after it
-abbrev Rising : List ℕ → Type 0
+abbrev pub Rising : List ℕ → Type 0
 Rising [] = Unit {0}
 Rising (x ∷ xs) = ((i : ℕ) → is_among i xs ≡ true → x < i) × Rising xs
 
@@ -86,10 +86,10 @@ rising-pairs R below [] rising = λ i k d lt within. absurd (omega arith)
 rising-pairs R below (x ∷ xs) rising =
     AllPairs-cons R x xs (all-among (R x) xs (λ k among. below x k (rising.0 k among))) (rising-pairs R below xs rising.1)
 
-rising-once : (xs : List ℕ) → Rising xs → AllPairs (λ i k. i ≢ k) xs
+pub rising-once : (xs : List ℕ) → Rising xs → AllPairs (λ i k. i ≢ k) xs
 rising-once = rising-pairs (λ i k. i ≢ k) (λ i k lt same. omega arith)
 
-not-true-is : (b : Bool) → (b ≡ true → ⊥) → b ≡ false
+pub not-true-is : (b : Bool) → (b ≡ true → ⊥) → b ≡ false
 not-true-is true h = absurd (h refl)
 not-true-is false h = refl
 
@@ -121,7 +121,7 @@ below-rising tele j ps (suc at) found above rising =
     let strictly : (i : ℕ) → is_among i found ≡ true → at < i = λ i among. (let le = above i among in omega arith) in
     below-rising tele j ps at (with_fixed tele j ps at found) (with-above tele j ps at found strictly) (with-rising tele j ps at found strictly rising)
 
-fixed-rising : (tele : List Term) (j : ℕ) (ps : List Term) → Rising (fixed_positions tele j ps)
+pub fixed-rising : (tele : List Term) (j : ℕ) (ps : List Term) → Rising (fixed_positions tele j ps)
 fixed-rising tele j ps = below-rising tele j ps j [] (λ i among. absurd (false≢true among)) tt
 
 -- ---- the others
@@ -183,7 +183,7 @@ moved k x first xs (inr among) = elim (or-tells (x == k) (is_among k xs) among) 
   | inr later ↦ inr later
 ]
 
-moved-back : (k x : ℕ) (first xs : List ℕ) → (is_among k (x ∷ first) ≡ true) ⊎ (is_among k xs ≡ true) → (is_among k first ≡ true) ⊎ (is_among k (x ∷ xs) ≡ true)
+pub moved-back : (k x : ℕ) (first xs : List ℕ) → (is_among k (x ∷ first) ≡ true) ⊎ (is_among k xs ≡ true) → (is_among k first ≡ true) ⊎ (is_among k (x ∷ xs) ≡ true)
 moved-back k x first xs (inl among) = elim (or-tells (x == k) (is_among k first) among) [
   | inl here ↦ inr (or_left (x == k) (is_among k xs) here)
   | inr later ↦ inl later
@@ -201,7 +201,7 @@ follows-more tele first more (x ∷ xs) there h = (λ k m. there k (h.0 k m), fo
       | inr later ↦ or_right (x == k) (is_among k more) (there k later)
     ]
 
-follows-append : (tele : List Term) (first second xs ys : List ℕ)
+pub follows-append : (tele : List Term) (first second xs ys : List ℕ)
     → ((k : ℕ) → is_among k second ≡ true → (is_among k first ≡ true) ⊎ (is_among k xs ≡ true)) → Follows tele first xs → Follows tele second ys
     → Follows tele first (xs ++ ys)
 follows-append tele first second [] ys there h k =
@@ -231,7 +231,7 @@ closed-follows tele first (x ∷ xs) closed apart = (
 later-not : (tele : List Term) (i k : ℕ) → i < k → mentions tele i k ≡ false
 later-not tele i k lt = not-true-is (mentions tele i k) (λ m. let before = mentions-before tele i k m in omega arith)
 
-rising-follows : (tele : List Term) (first xs : List ℕ)
+pub rising-follows : (tele : List Term) (first xs : List ℕ)
     → ((i k : ℕ) → is_among i xs ≡ true → mentions tele i k ≡ true → (is_among k first ≡ true) ⊎ (is_among k xs ≡ true)) → Rising xs → Follows tele first xs
 rising-follows tele first xs closed rising =
     closed-follows tele first xs closed (rising-pairs (λ i k. mentions tele i k ≡ false) (later-not tele) xs rising)
@@ -288,50 +288,40 @@ mention-tells tele j k t at m =
     let parts = and-tells (nat_lt k j) (in_type (j - (k + 1)) (slice_get tele j)) m in
     ((Decides-ltb k j).0 parts.0, sym (ap (in_type (j - (k + 1))) at) ∙ parts.1)
 
+-- what the type `D ps is` of a position mentions: variables of its parameters, and its indices
+pub family-mentions : (tele : List Term) (j n : ℕ) (ps : List Term) (is : List ℕ) (k : ℕ)
+    → slice_get tele j ≡ Some (applied (Fam n) (ps ++ map (variable j) is)) → All (λ i. i < j) is → mentions tele j k ≡ true
+    → (have_position j k ps ≡ true) ⊎ (is_among k is ≡ true)
+family-mentions tele j n ps is k type low mentioned =
+    let parts = mention-tells tele j k _ type mentioned in
+    elim (has-applied (j - (k + 1)) (Fam n) (ps ++ map (variable j) is) parts.1) [
+      | inl none ↦ absurd (false≢true none)
+      | inr there ↦ elim (any-split (has_variable (j - (k + 1))) ps (map (variable j) is) there) [
+        | inl fixed ↦ inl (and_from (nat_lt k j) (list_any (has_variable (j - (k + 1))) ps) ((Decides-ltb k j).1 parts.0) fixed)
+        | inr index ↦ inr (variable-listed j k is parts.0 low index)
+      ]
+    ]
+
 -- ---- the order
 
-pub order-whole : (S : Signature) (tele : List Term) (j : ℕ) (a : Admission) → Admits S tele j a → IsOrder (length tele) (recursion_order (length tele) j a)
-order-whole S tele j a m = record { whole = whole; within = within; once = once }
+-- The first positions of an order: positions of the telescope, each once, whose types mention only those before them.
+pub record AreInOrder (tele : List Term) (first : List ℕ) : Type 0 where
+  pub within : (i : ℕ) → is_among i first ≡ true → i < length tele
+  pub once : AllPairs (λ i k. i ≢ k) first
+  pub follow : Follows tele [] first
+
+abbrev pub others_of : (tele : List Term) (first : List ℕ) → List ℕ
+others_of tele first = flat_map (unless_among first) (range_with_len 0 (length tele))
+
+-- with the others after them they are an order,
+pub with-others-whole : (tele : List Term) (first : List ℕ) → AreInOrder tele first → IsOrder (length tele) (first ++ others_of tele first)
+with-others-whole tele first h = record { whole = whole; within = within; once = once }
   where
     count : ℕ
     count = length tele
 
-    first : List ℕ
-    first = recursive_positions j a
-
     others : List ℕ
-    others = flat_map (unless_among first) (range_with_len 0 count)
-
-    inside : j < count
-    inside = slice_get_within tele j _ m.type
-
-    fixed-low : (i : ℕ) → is_among i a.fixed ≡ true → i < j
-    fixed-low i among =
-        fixed-before tele j m.parameters ((fixed-decides tele j m.parameters i).0 (ap (is_among i) (sym m.fixed) ∙ among))
-
-    index-low : (i : ℕ) → is_among i a.indices ≡ true → i < j
-    index-low i among = among-all (λ k. k < j) a.indices m.before i among
-
-    only-itself : (i : ℕ) → is_among i (j ∷ []) ≡ true → j ≡ i
-    only-itself i among = elim (or-tells (j == i) false among) [
-      | inl same ↦ (Decides-eqb j i).0 same
-      | inr none ↦ absurd (false≢true none)
-    ]
-
-    among-last : (i : ℕ) → is_among i (a.indices ++ j ∷ []) ≡ true → (is_among i a.indices ≡ true) ⊎ (j ≡ i)
-    among-last i among = elim (among-tells i a.indices (j ∷ []) among) [
-      | inl index ↦ inl index
-      | inr last ↦ inr (only-itself i last)
-    ]
-
-    first-low : (i : ℕ) → is_among i first ≡ true → i ≤ j
-    first-low i among = elim (among-tells i a.fixed (a.indices ++ j ∷ []) among) [
-      | inl fixed ↦ let lt = fixed-low i fixed in omega arith
-      | inr later ↦ elim (among-last i later) [
-        | inl index ↦ let lt = index-low i index in omega arith
-        | inr last ↦ omega arith
-      ]
-    ]
+    others = others_of tele first
 
     whole : (i : ℕ) → i < count → is_among i (first ++ others) ≡ true
     whole i lt = by (is_among i first) refl
@@ -342,47 +332,120 @@ order-whole S tele j a m = record { whole = whole; within = within; once = once 
 
     within : (i : ℕ) → is_among i (first ++ others) ≡ true → i < count
     within i among = elim (among-tells i first others among) [
-      | inl front ↦ let low = first-low i front in let lt = inside in omega arith
+      | inl front ↦ h.within i front
       | inr back ↦ let high = (others-tell first 0 count i back).1 in omega arith
     ]
 
-    apart : (i : ℕ) → is_among i (a.indices ++ j ∷ []) ≡ true → is_among i a.fixed ≡ false
-    apart i among = elim (among-last i among) [
-      | inl index ↦ m.apart i index
-      | inr last ↦ not-true-is (is_among i a.fixed) (λ fixed. let lt = fixed-low i fixed in omega arith)
-    ]
-
-    last-apart : (i : ℕ) → is_among i (j ∷ []) ≡ true → is_among i a.indices ≡ false
-    last-apart i among =
-        let same = only-itself i among in
-        not-true-is (is_among i a.indices) (λ index. let lt = index-low i index in omega arith)
-
     once : AllPairs (λ i k. i ≢ k) (first ++ others)
-    once =
-        once-append first others
-        (once-append a.fixed (a.indices ++ j ∷ []) (subst (AllPairs (λ i k. i ≢ k)) (sym m.fixed) (rising-once (fixed_positions tele j m.parameters) (fixed-rising tele j m.parameters)))
-        (once-append a.indices (j ∷ []) m.different (rising-once (j ∷ []) (λ i among. absurd (false≢true among), tt)) last-apart)
-        apart)
-        (rising-once others (others-rising first 0 count)) (λ i among. (others-tell first 0 count i among).2)
+    once = once-append first others h.once (rising-once others (others-rising first 0 count)) (λ i among. (others-tell first 0 count i among).2)
 
-pub order-is-telescope : (S : Signature) (tele : List Term) (j : ℕ) (a : Admission) → Admits S tele j a → IsTelescopeOrder tele (recursion_order (length tele) j a)
-order-is-telescope S tele j a m = record {
+-- and the types in it are a telescope
+pub with-others-telescope : (tele : List Term) (first : List ℕ) → AreInOrder tele first → IsTelescopeOrder tele (first ++ others_of tele first)
+with-others-telescope tele first h = record {
   positions = whole;
   earlier = follows-earlier tele (first ++ others)
-      (follows-append tele [] first first others (λ k among. inr among) first-follow (rising-follows tele first others others-closed (others-rising first 0 count)));
+      (follows-append tele [] first first others (λ k among. inr among) h.follow (rising-follows tele first others closed (others-rising first 0 count)));
 }
   where
     count : ℕ
     count = length tele
 
-    first : List ℕ
-    first = recursive_positions j a
-
     others : List ℕ
-    others = flat_map (unless_among first) (range_with_len 0 count)
+    others = others_of tele first
 
     whole : IsOrder count (first ++ others)
-    whole = order-whole S tele j a m
+    whole = with-others-whole tele first h
+
+    closed : (i k : ℕ) → is_among i others ≡ true → mentions tele i k ≡ true → (is_among k first ≡ true) ⊎ (is_among k others ≡ true)
+    closed i k among mentioned =
+        let lt : k < i = mentions-before tele i k mentioned in
+        let low : i < 0 + count = (others-tell first 0 count i among).1 in
+        let near : k < count = omega arith in
+        among-tells k first others (whole.whole k near)
+
+-- A position after fixed positions that are in order and its indices, where its type mentions these alone.
+pub record IsAfter (tele : List Term) (fixed indices : List ℕ) (j : ℕ) : Type 0 where
+  pub fixed_order : AreInOrder tele fixed
+  pub inside : j < length tele
+  pub outside : is_among j fixed ≡ false
+  pub before : All (λ i. i < j) indices
+  pub different : AllPairs (λ i k. i ≢ k) indices
+  pub apart : (i : ℕ) → is_among i indices ≡ true → is_among i fixed ≡ false
+  pub index_types : (i k : ℕ) → is_among i indices ≡ true → mentions tele i k ≡ true → (is_among k fixed || is_among k indices) ≡ true
+  pub index_order : AllPairs (λ i k. mentions tele i k ≡ false) indices
+  pub own : (k : ℕ) → mentions tele j k ≡ true → is_among k (fixed ++ indices) ≡ true
+
+pub after-in-order : (tele : List Term) (fixed indices : List ℕ) (j : ℕ) → IsAfter tele fixed indices j → AreInOrder tele (fixed ++ (indices ++ j ∷ []))
+after-in-order tele fixed indices j m = record { within = within; once = once; follow = follow }
+  where
+    index-low : (i : ℕ) → is_among i indices ≡ true → i < j
+    index-low i among = among-all (λ k. k < j) indices m.before i among
+
+    only-itself : (i : ℕ) → is_among i (j ∷ []) ≡ true → j ≡ i
+    only-itself i among = elim (or-tells (j == i) false among) [
+      | inl same ↦ (Decides-eqb j i).0 same
+      | inr none ↦ absurd (false≢true none)
+    ]
+
+    among-last : (i : ℕ) → is_among i (indices ++ j ∷ []) ≡ true → (is_among i indices ≡ true) ⊎ (j ≡ i)
+    among-last i among = elim (among-tells i indices (j ∷ []) among) [
+      | inl index ↦ inl index
+      | inr last ↦ inr (only-itself i last)
+    ]
+
+    within : (i : ℕ) → is_among i (fixed ++ (indices ++ j ∷ [])) ≡ true → i < length tele
+    within i among = elim (among-tells i fixed (indices ++ j ∷ []) among) [
+      | inl front ↦ m.fixed_order.within i front
+      | inr later ↦ elim (among-last i later) [
+        | inl index ↦ let lt = index-low i index in let far = m.inside in omega arith
+        | inr last ↦ let far = m.inside in omega arith
+      ]
+    ]
+
+    apart : (i : ℕ) → is_among i (indices ++ j ∷ []) ≡ true → is_among i fixed ≡ false
+    apart i among = elim (among-last i among) [
+      | inl index ↦ m.apart i index
+      | inr last ↦ ap (λ k. is_among k fixed) (sym last) ∙ m.outside
+    ]
+
+    last-apart : (i : ℕ) → is_among i (j ∷ []) ≡ true → is_among i indices ≡ false
+    last-apart i among =
+        let same = only-itself i among in
+        not-true-is (is_among i indices) (λ index. let lt = index-low i index in omega arith)
+
+    once : AllPairs (λ i k. i ≢ k) (fixed ++ (indices ++ j ∷ []))
+    once =
+        once-append fixed (indices ++ j ∷ []) m.fixed_order.once
+        (once-append indices (j ∷ []) m.different (rising-once (j ∷ []) (λ i among. absurd (false≢true among), tt)) last-apart)
+        apart
+
+    indices-follow : Follows tele fixed indices
+    indices-follow =
+        closed-follows tele fixed indices
+        (λ i k among mentioned. or-tells (is_among k fixed) (is_among k indices) (m.index_types i k among mentioned)) m.index_order
+
+    follow : Follows tele [] (fixed ++ (indices ++ j ∷ []))
+    follow =
+        follows-append tele [] fixed fixed (indices ++ j ∷ []) (λ k among. inr among) m.fixed_order.follow
+        (follows-append tele fixed (fixed ++ indices) indices (j ∷ []) (λ k among. among-tells k fixed indices among) indices-follow (m.own, tt))
+
+pub recursive-in-order : (S : Signature) (tele : List Term) (j : ℕ) (a : Admission) → Admits S tele j a → AreInOrder tele (recursive_positions j a)
+recursive-in-order S tele j a m =
+    after-in-order tele a.fixed a.indices j
+    (record {
+      fixed_order = record { within = λ i among. (let lt = fixed-low i among in let far = inside in omega arith); once = rising-once a.fixed rising; follow = follow };
+      inside = inside;
+      outside = not-true-is (is_among j a.fixed) (λ fixed. let lt = fixed-low j fixed in omega arith);
+      before = m.before;
+      different = m.different;
+      apart = m.apart;
+      index_types = m.index_types;
+      index_order = m.index_order;
+      own = own;
+    })
+  where
+    inside : j < length tele
+    inside = slice_get_within tele j _ m.type
 
     is-fixed : (i : ℕ) → is_among i a.fixed ≡ true → IsFixed tele j m.parameters i
     is-fixed i among = (fixed-decides tele j m.parameters i).0 (ap (is_among i) (sym m.fixed) ∙ among)
@@ -390,38 +453,24 @@ order-is-telescope S tele j a m = record {
     found-fixed : (i : ℕ) → IsFixed tele j m.parameters i → is_among i a.fixed ≡ true
     found-fixed i fixed = ap (is_among i) m.fixed ∙ (fixed-decides tele j m.parameters i).1 fixed
 
-    fixed-follow : Follows tele [] a.fixed
-    fixed-follow =
-        rising-follows tele [] a.fixed (λ i k among mentioned. inr (found-fixed k (behind (is-fixed i among) mentioned)))
-        (subst Rising (sym m.fixed) (fixed-rising tele j m.parameters))
+    fixed-low : (i : ℕ) → is_among i a.fixed ≡ true → i < j
+    fixed-low i among = fixed-before tele j m.parameters (is-fixed i among)
 
-    indices-follow : Follows tele a.fixed a.indices
-    indices-follow =
-        closed-follows tele a.fixed a.indices
-        (λ i k among mentioned. or-tells (is_among k a.fixed) (is_among k a.indices) (m.index_types i k among mentioned)) m.index_order
+    rising : Rising a.fixed
+    rising = subst Rising (sym m.fixed) (fixed-rising tele j m.parameters)
+
+    follow : Follows tele [] a.fixed
+    follow = rising-follows tele [] a.fixed (λ i k among mentioned. inr (found-fixed k (behind (is-fixed i among) mentioned))) rising
 
     -- the type at j itself mentions its parameters' variables, which are fixed, and the indices
     own : (k : ℕ) → mentions tele j k ≡ true → is_among k (a.fixed ++ a.indices) ≡ true
-    own k mentioned =
-        let parts = mention-tells tele j k _ m.type mentioned in
-        elim (has-applied (j - (k + 1)) (Fam a.number) (m.parameters ++ map (variable j) a.indices) parts.1) [
-          | inl none ↦ absurd (false≢true none)
-          | inr there ↦ elim (any-split (has_variable (j - (k + 1))) m.parameters (map (variable j) a.indices) there) [
-            | inl fixed ↦
-                among-left k a.fixed a.indices
-                (found-fixed k (parameter (and_from (nat_lt k j) (list_any (has_variable (j - (k + 1))) m.parameters) ((Decides-ltb k j).1 parts.0) fixed)))
-            | inr index ↦ among-right k a.fixed a.indices (variable-listed j k a.indices parts.0 m.before index)
-          ]
-        ]
+    own k mentioned = elim (family-mentions tele j a.number m.parameters a.indices k m.type m.before mentioned) [
+      | inl fixed ↦ among-left k a.fixed a.indices (found-fixed k (parameter fixed))
+      | inr index ↦ among-right k a.fixed a.indices index
+    ]
 
-    first-follow : Follows tele [] first
-    first-follow =
-        follows-append tele [] a.fixed a.fixed (a.indices ++ j ∷ []) (λ k among. inr among) fixed-follow
-        (follows-append tele a.fixed (a.fixed ++ a.indices) a.indices (j ∷ []) (λ k among. among-tells k a.fixed a.indices among) indices-follow (own, tt))
+pub order-whole : (S : Signature) (tele : List Term) (j : ℕ) (a : Admission) → Admits S tele j a → IsOrder (length tele) (recursion_order (length tele) j a)
+order-whole S tele j a m = with-others-whole tele (recursive_positions j a) (recursive-in-order S tele j a m)
 
-    others-closed : (i k : ℕ) → is_among i others ≡ true → mentions tele i k ≡ true → (is_among k first ≡ true) ⊎ (is_among k others ≡ true)
-    others-closed i k among mentioned =
-        let lt : k < i = mentions-before tele i k mentioned in
-        let low : i < 0 + count = (others-tell first 0 count i among).1 in
-        let near : k < count = omega arith in
-        among-tells k first others (whole.whole k near)
+pub order-is-telescope : (S : Signature) (tele : List Term) (j : ℕ) (a : Admission) → Admits S tele j a → IsTelescopeOrder tele (recursion_order (length tele) j a)
+order-is-telescope S tele j a m = with-others-telescope tele (recursive_positions j a) (recursive-in-order S tele j a m)

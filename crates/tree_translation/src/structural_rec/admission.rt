@@ -109,7 +109,12 @@ fn admission_at(
 }
 
 /// The admission from the fixed positions and those of the indices.
-fn admission_from(tele: &[Term], n: u32, fixed: Vec<u32>, indices: Vec<u32>) -> Option<Admission>
+pub fn admission_from(
+    tele: &[Term],
+    n: u32,
+    fixed: Vec<u32>,
+    indices: Vec<u32>,
+) -> Option<Admission>
     requires { AreSmallTerms (tele_of tele.now) }
     ensures { option_map admission_of result ≡ spec.admission_from (tele_of tele.now) n fixed.items indices.items }
 {

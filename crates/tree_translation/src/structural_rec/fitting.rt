@@ -19,12 +19,12 @@ use std::alloc::Global;
 
 /// A position of `count`, with its admission, for the function with the constant `own`.
 #[derive(Clone, Copy)]
-pub(crate) struct Place<'a> {
-    pub(crate) sig: &'a Signature,
-    pub(crate) own: u32,
-    pub(crate) count: u32,
-    pub(crate) position: u32,
-    pub(crate) admission: &'a Admission,
+pub struct Place<'a> {
+    pub sig: &'a Signature,
+    pub own: u32,
+    pub count: u32,
+    pub position: u32,
+    pub admission: &'a Admission,
 }
 
 /// Whether `part` is a strict part of a term in family `n`.
@@ -126,13 +126,7 @@ fn arguments_fit(
 }
 
 /// Whether a call under so many binders fits the position.
-pub(crate) fn fits(
-    alloc: Global,
-    p: &Place,
-    terms: &[Term],
-    under: u32,
-    call: &Term,
-) -> Result<bool, Stop>
+pub fn fits(alloc: Global, p: &Place, terms: &[Term], under: u32, call: &Term) -> Result<bool, Stop>
     requires small { AreSmallTerms (tele_of terms.now) }
     requires under { under ≤ most_height }
     ensures { Gives (λ b. b) result (Ok (spec.arguments_fit p.now.sig.now p.now.count p.now.position (admission_of p.now.admission.now) (tele_of terms.now) under (spine_of (tree_of call.now)))) }

@@ -21,7 +21,7 @@ pub fn recursion_order(alloc: Global, count: u32, j: u32, a: &Admission) -> Resu
 }
 
 /// The positions that recursion at `j` goes over.
-fn recursive_positions(alloc: Global, j: u32, a: &Admission) -> Result<Vec<u32>, Stop>
+pub fn recursive_positions(alloc: Global, j: u32, a: &Admission) -> Result<Vec<u32>, Stop>
     ensures { Gives (λ v. v.items) result (Ok (spec.recursive_positions j (admission_of a.now))) }
 {
     let mut positions = Vec::new(alloc);
@@ -44,7 +44,7 @@ fn with_others(positions: Vec<u32>, first: &[u32], from: u32, count: u32) -> Res
 }
 
 /// Positions with one more after them, unless it is among the first.
-fn unless_among(mut positions: Vec<u32>, first: &[u32], i: u32) -> Result<Vec<u32>, Stop>
+pub fn unless_among(mut positions: Vec<u32>, first: &[u32], i: u32) -> Result<Vec<u32>, Stop>
     ensures { Gives (λ v. v.items) result (Ok (positions.items ++ spec.unless_among first.now i)) }
 {
     if !is_among(i, first) {

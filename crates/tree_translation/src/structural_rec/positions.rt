@@ -84,7 +84,7 @@ fn with_fixed(
 }
 
 /// The fixed positions below `at`, before those that are found already.
-pub(crate) fn fixed_below(
+pub fn fixed_below(
     tele: &[Term],
     j: u32,
     params: &[Term],
@@ -113,7 +113,7 @@ fn position_of(j: u32, t: &Term) -> Option<u32>
 }
 
 /// The positions of terms at `j`, if each is a variable before `j`.
-pub(crate) fn positions_of(alloc: Global, j: u32, terms: &[Term]) -> Result<Option<Vec<u32>>, Stop>
+pub fn positions_of(alloc: Global, j: u32, terms: &[Term]) -> Result<Option<Vec<u32>>, Stop>
     ensures { Gives (option_map (λ v. v.items)) result (Ok (spec.positions_of j (tele_of terms.now))) }
 {
     match terms {

@@ -17,7 +17,7 @@ pub(crate) fn term_at(terms: &[Term], i: u32) -> Option<&Term>
 }
 
 /// The term with the number, which is small if all are.
-pub(crate) fn small_term_at(terms: &[Term], i: u32) -> Option<&Term>
+pub fn small_term_at(terms: &[Term], i: u32) -> Option<&Term>
     requires { AreSmallTerms (tele_of terms.now) }
     ensures term { option_map tree_of (option_copied result) ≡ slice_get (tele_of terms.now) i }
     ensures small { IfSome result (λ t. IsSmall (tree_of t.now)) }
