@@ -24,7 +24,7 @@ use Rattle.mutual_pack.proofs.TooHigh.{length-motives}
 -- ---- variables of the same levels at another depth
 
 -- s puts for each variable with a level below n the variable with this level at another depth
-abbrev Relevels : (s : ℕ → Term) (n from to : ℕ) → Type 0
+abbrev pub Relevels : (s : ℕ → Term) (n from to : ℕ) → Type 0
 Relevels s n from to = (l : ℕ) → l < n → inst s (variable from l) ≡ variable to l
 
 relevel-up : (s : ℕ → Term) (n from to : ℕ) → n ≤ from → n ≤ to → Relevels s n from to → Relevels (ups s) n (from + 1) (to + 1)
@@ -89,7 +89,7 @@ selected-relevel q analysis s n from to members before behind at =
     ap₂ (λ a b. Lam (Fam q.tag) (Lam a b)) (packed-relevel q s n from to (omega arith) before behind at)
     (ap₂ App (ap₂ App spine (second s from to)) (first s from to))
 
-eliminated-relevel : (q : PackedFamily) (analysis : ℕ) (s : ℕ → Term) (from to : ℕ) → induction_size q ≤ from → induction_size q ≤ to → Relevels s (induction_size q) from to
+pub eliminated-relevel : (q : PackedFamily) (analysis : ℕ) (s : ℕ → Term) (from to : ℕ) → induction_size q ≤ from → induction_size q ≤ to → Relevels s (induction_size q) from to
     → inst s (eliminated q analysis from) ≡ eliminated q analysis to
 eliminated-relevel q analysis s from to before behind at =
     let n = induction_size q in
@@ -117,7 +117,7 @@ length-telescope q owners f params constructors =
 -- ---- the law
 
 -- a run at one of its levels
-run-at : (depth start count l : ℕ) → l < count → run depth start count ≡ run depth start l ++ variable depth (start + l) ∷ run depth (start + l + 1) (count - (l + 1))
+pub run-at : (depth start count l : ℕ) → l < count → run depth start count ≡ run depth start l ++ variable depth (start + l) ∷ run depth (start + l + 1) (count - (l + 1))
 run-at depth start zero l lt = absurd (omega arith)
 run-at depth start (suc count) zero lt =
     let here : start ≡ start + 0 = omega arith in

@@ -4,13 +4,13 @@ use Rattle.std.proofs.lemmas.Bool.Decides.{Decides-eqb, nat_tests}
 use Rattle.std.proofs.lemmas.List.Elements.{All-head, All-tail, All-nil, All-cons}
 use Rattle.std.specs.Option.{option_map_or}
 use Rattle.theory.specs.Terms.{Term}
-use Rattle.theory.specs.Terms.Term.{Var, Sort, Pi, Lam, App, Let, Const, Fam, Con, Elim, AxiomK}
+use Rattle.theory.specs.Terms.Term.{Var, Pi, App, Fam}
 use Rattle.theory.specs.Families.{mentions}
 use Rattle.theory.specs.Telescopes.{applied}
 use Rattle.core_terms.specs.Levels.{variable, run}
 use Rattle.core_terms.proofs.Builders.{applied-push}
 use Rattle.core_terms.proofs.Placing.{run-push}
-use Rattle.core_sig.specs.KindTests.{is_variable, is_at_parameters, is_at_targets, inner_count}
+use Rattle.core_sig.specs.KindTests.{is_at_parameters, inner_count}
 use Rattle.core_sig.specs.Raw.{RawConstructor}
 use Rattle.mutual_pack.specs.declared.members.Members.{Members}
 use Rattle.mutual_pack.specs.Members.{mentions_member, whole_member, is_positive_end, is_positive_argument, offending_argument}

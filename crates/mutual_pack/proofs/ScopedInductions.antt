@@ -32,7 +32,7 @@ use Rattle.mutual_pack.proofs.TooHigh.{length-motives}
 
 -- ---- telescopes
 
-each-append : (P : ℕ → Term → Type 0) (n : ℕ) (xs ys : Telescope) → EachInTelescope P n xs → EachInTelescope P (n + length xs) ys → EachInTelescope P n (xs ++ ys)
+pub each-append : (P : ℕ → Term → Type 0) (n : ℕ) (xs ys : Telescope) → EachInTelescope P n xs → EachInTelescope P (n + length xs) ys → EachInTelescope P n (xs ++ ys)
 each-append P n [] ys first rest = transport (λ m. EachInTelescope P m ys) (omega arith) rest
 each-append P n (a ∷ xs) ys first rest =
     (first.0, each-append P (n + 1) xs ys first.1 (transport (λ m. EachInTelescope P m ys) (omega arith) rest))
@@ -102,31 +102,31 @@ method_types-draft {T} {base} {count} q owners number depth (c ∷ constructors)
 
 -- ---- the entries of a scoped signature
 
-module _ (S : Signature) (packed : Packed) (f : Family) (scoped : IsScopedSignature S) (has : HasPacked S packed) (entry : IsEntryAt S (packed_number packed) (FamilyOf f)) where
+module _ (names : ℕ) (S : Signature) (packed : Packed) (f : Family) (scoped : IsScopedSignature S) (has : HasPacked S packed) (entry : IsEntryAt S (packed_number packed) (FamilyOf f)) where
   abbrev shape : Shape
   shape = family_shape (packed_number packed) f
 
   abbrev q : PackedFamily
   q = packed_numbers packed shape
 
-  -- a term over n variables, in a draft with one name
+  -- a term over n variables, in a draft with so many names
   abbrev Is : ℕ → Term → Type 0
-  Is n t = IsDraftTerm S (length S.entries) 1 n t
+  Is n t = IsDraftTerm S (length S.entries) names n t
 
-  is : IsDraftShape S (length S.entries) 1 (packed_number packed) shape
-  is = family-draft S 1 (packed_number packed) f scoped entry
+  is : IsDraftShape S (length S.entries) names (packed_number packed) shape
+  is = family-draft S names (packed_number packed) f scoped entry
 
   member_type-draft : (k depth : ℕ) → k < length packed.members → q.params ≤ depth → Is depth (member_type q k depth)
   member_type-draft k depth low params =
       at-run-draft (Const (q.tag + 2 + k)) depth 0 q.params (omega arith)
-      (scoped-draft S 1 depth (Const (q.tag + 2 + k)) (record { variables = omega arith; entries = has.members k low }))
+      (scoped-draft S names depth (Const (q.tag + 2 + k)) (record { variables = omega arith; entries = has.members k low }))
 
   motive_types-draft : (k depth count : ℕ) → k + count ≤ length packed.members → q.params ≤ depth → EachInTelescope Is depth (motive_types q k depth count)
   motive_types-draft k depth zero low params = tt
   motive_types-draft k depth (suc count) low params =
       (pi-draft (member_type-draft k depth (omega arith) params) (sort-draft q.level), motive_types-draft (k + 1) (depth + 1) count (omega arith) (omega arith))
 
-  telescope-draft : 0 < length packed.members → EachInTelescope Is 0 (induction_telescope q packed.owners shape)
+  pub telescope-draft : 0 < length packed.members → EachInTelescope Is 0 (induction_telescope q packed.owners shape)
   telescope-draft some =
       let motives = motive_types q 0 q.params q.members in
       let methods = method_types q packed.owners 0 (q.params + q.members) shape.constructors in
@@ -151,8 +151,8 @@ module _ (S : Signature) (packed : Packed) (f : Family) (scoped : IsScopedSignat
   selection-draft depth tag params =
       lam-draft (fam-draft q.tag tag) (pi-draft (family_at-draft (number_of q) q.params (depth + 1) depth 1 has.family (omega arith) (omega arith)) (sort-draft q.level))
 
-  selected-draft : (depth : ℕ) → IsFamilyNumber S q.tag → q.params + q.members ≤ depth → Is depth (selected_motive q (length S.entries) depth)
-  selected-draft depth tag low =
+  selected-draft : (depth : ℕ) → 0 < names → IsFamilyNumber S q.tag → q.params + q.members ≤ depth → Is depth (selected_motive q (length S.entries) depth)
+  selected-draft depth some tag low =
       let inside = depth + 2 in
       lam-draft (fam-draft q.tag tag)
       (lam-draft (family_at-draft (number_of q) q.params (depth + 1) depth 1 has.family (omega arith) (omega arith))
@@ -164,30 +164,33 @@ module _ (S : Signature) (packed : Packed) (f : Family) (scoped : IsScopedSignat
       (variable-draft depth (omega arith)))
       (variable-draft (depth + 1) (omega arith)))))
 
-  eliminated-draft : (depth : ℕ) → IsFamilyNumber S q.tag → induction_size q ≤ depth → Is depth (eliminated q (length S.entries) depth)
-  eliminated-draft depth tag low =
+  eliminated-draft : (depth : ℕ) → 0 < names → IsFamilyNumber S q.tag → induction_size q ≤ depth → Is depth (eliminated q (length S.entries) depth)
+  eliminated-draft depth some tag low =
       at-run-draft (App (applied (Elim (number_of q) q.level) (run depth 0 q.params)) (selected_motive q (length S.entries) depth)) depth (q.params + q.members) q.constructors (omega arith)
-      (app-draft (at-run-draft (Elim (number_of q) q.level) depth 0 q.params (omega arith) (elim-draft (number_of q) q.level has.family)) (selected-draft depth tag (omega arith)))
+      (app-draft (at-run-draft (Elim (number_of q) q.level) depth 0 q.params (omega arith) (elim-draft (number_of q) q.level has.family)) (selected-draft depth some tag (omega arith)))
 
-  term-draft : (k : ℕ) → k < length packed.members → Is 0 (induction_term q packed.owners shape (length S.entries) k)
-  term-draft k low =
+  term-draft : (k : ℕ) → 0 < names → k < length packed.members → Is 0 (induction_term q packed.owners shape (length S.entries) k)
+  term-draft k some low =
       let x = induction_size q in
       let end = Lam (member_type q k x) (App (App (eliminated q (length S.entries) (x + 1)) (Con q.tag k)) (variable (x + 1) x)) in
       functions-draft 0 (induction_telescope q packed.owners shape) end (telescope-draft (omega arith))
       (draft-more (let count = length-telescope q packed.owners shape refl refl in omega arith)
       (lam-draft (member_type-draft k x low (omega arith))
-      (app-draft (app-draft (eliminated-draft (x + 1) (tag-there k low) (omega arith)) (con-draft q.tag k (has.tags k low))) (variable-draft x (omega arith)))))
+      (app-draft (app-draft (eliminated-draft (x + 1) some (tag-there k low) (omega arith)) (con-draft q.tag k (has.tags k low))) (variable-draft x (omega arith)))))
 
-  entry-scoped : (T : Signature) (k : ℕ) (name : List ℕ) → IsPrefix S T → k < length packed.members → IfOk (induction_entry (length S.entries) packed shape k name) (IsScopedDraft T)
+-- ---- the entries, each of which has one name
+
+module _ (S : Signature) (packed : Packed) (f : Family) (scoped : IsScopedSignature S) (has : HasPacked S packed) (entry : IsEntryAt S (packed_number packed) (FamilyOf f)) where
+  entry-scoped : (T : Signature) (k : ℕ) (name : List ℕ) → IsPrefix S T → k < length packed.members → IfOk (induction_entry (length S.entries) packed (family_shape (packed_number packed) f) k name) (IsScopedDraft T)
   entry-scoped T k name longer low =
-      drafted-scoped T (induction_name name) (length S.entries) (analysis_name packed ∷ []) (induction_type q packed.owners shape k) (induction_term q packed.owners shape (length S.entries) k)
-      (draft-longer longer (type-draft k low)) (draft-longer longer (term-draft k low))
+      drafted-scoped T (induction_name name) (length S.entries) (analysis_name packed ∷ []) (induction_type (packed_numbers packed (family_shape (packed_number packed) f)) packed.owners (family_shape (packed_number packed) f) k) (induction_term (packed_numbers packed (family_shape (packed_number packed) f)) packed.owners (family_shape (packed_number packed) f) (length S.entries) k)
+      (draft-longer longer (type-draft 1 S packed f scoped has entry k low)) (draft-longer longer (term-draft 1 S packed f scoped has entry k (omega arith) low))
 
   entries-scoped : (T : Signature) (k : ℕ) (members : List Entry) → IsPrefix S T → k + length members ≤ length packed.members
-      → IfOk (induction_entries_from (length S.entries) packed shape k members) (All (IsScopedDraft T))
+      → IfOk (induction_entries_from (length S.entries) packed (family_shape (packed_number packed) f) k members) (All (IsScopedDraft T))
   entries-scoped T k [] longer low = All-nil (IsScopedDraft T)
   entries-scoped T k (m ∷ members) longer low =
-      by (induction_entry (length S.entries) packed shape k (name_of m)) (induction_entries_from (length S.entries) packed shape (k + 1) members)
+      by (induction_entry (length S.entries) packed (family_shape (packed_number packed) f) k (name_of m)) (induction_entries_from (length S.entries) packed (family_shape (packed_number packed) f) (k + 1) members)
       (entry-scoped T k (name_of m) longer (omega arith)) (entries-scoped T (k + 1) members longer (omega arith))
     where
       by : (first : Result Draft Stop) (rest : Result (List Draft) Stop) → IfOk first (IsScopedDraft T) → IfOk rest (All (IsScopedDraft T))

@@ -81,7 +81,7 @@ number-is g c k e = by (nat_le g.first c) refl (nat_lt c (g.first + g.count)) re
     by true first false last rest = absurd cc
     by false first b last rest = absurd cc
 
-member-form : (g : Members) (p at k : ℕ) (t : Term) → member_at g p at t ≡ Some k → IsMemberAt g p at k t
+pub member-form : (g : Members) (p at k : ℕ) (t : Term) → member_at g p at t ≡ Some k → IsMemberAt g p at k t
 member-form g zero at k (Const c) e =
     let (member, equal) = number-is g c k e in
     record { member = member; form = ap Const equal }
@@ -127,7 +127,7 @@ entry-at g l ps j (suc k) (m ∷ members) low =
     let (found, there) = entry-at g l ps (j + 1) k members (omega arith) in
     (found, there ∙ ap (λ i. Some (member_entry g l ps i found)) (omega arith))
 
-length-entries : (g : Members) (l : ℕ) (ps : Telescope) (j : ℕ) (members : List RawMember) → length (member_entries g l ps j members) ≡ length members
+pub length-entries : (g : Members) (l : ℕ) (ps : Telescope) (j : ℕ) (members : List RawMember) → length (member_entries g l ps j members) ≡ length members
 length-entries g l ps j [] = refl
 length-entries g l ps j (m ∷ members) = ap suc (length-entries g l ps (j + 1) members)
 
@@ -210,7 +210,7 @@ types-unfold S g ps (c ∷ constructors) has fitting =
 
 -- ---- what is packed
 
-below-count : (g : Members) (k : ℕ) → is_member g (g.first + k) ≡ true → k < g.count
+pub below-count : (g : Members) (k : ℕ) → is_member g (g.first + k) ≡ true → k < g.count
 below-count g k e = let parts = both (nat_le g.first (g.first + k)) (nat_lt (g.first + k) (g.first + g.count)) e in let last = parts.1 in grind (arith, nat_tests)
 
 pub members-unfold : MembersUnfold

@@ -1,3 +1,5 @@
+pub mod EquationLaws
+pub mod EquationScopes
 pub mod Equations
 pub mod Fitting
 pub mod InductionLaws
@@ -5,5 +7,6 @@ pub mod Inductions
 pub mod Members
 pub mod MutualFamilies
 pub mod PackedEntries
+pub mod PackedScopes
 pub mod Packing
 pub mod PackingLaws

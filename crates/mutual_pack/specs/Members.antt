@@ -1,7 +1,7 @@
 -- Where members stand in a type, and where they may stand: at the end of an argument's type and at the end of a constructor's type, at
 -- the parameters letter for letter.
 use Rattle.std.specs.Prelude.{ℕ, suc, ◌+◌, ◌-◌, ◌==◌, nat_lt, nat_le, ◌&&◌, ◌||◌, not, Bool, false, cond, Option, Some, None, is_some, List, [], ◌∷◌, length}
-use Rattle.theory.specs.Terms.{Term, Var, Pi, Lam, App, Let, Const}
+use Rattle.theory.specs.Terms.{Term, Pi, Lam, App, Let, Const}
 use Rattle.core_sig.specs.KindTests.{is_variable}
 use Rattle.core_sig.specs.Raw.{RawConstructor}
 use Rattle.mutual_pack.specs.declared.members.Members.{Members}

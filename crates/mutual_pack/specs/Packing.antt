@@ -1,7 +1,7 @@
 -- Families that refer to each other as one family S over the tags t1 .. tn of a family T: with the parameters p, member k is S p tk. The
 -- refusals come in their order: the tags are not as many as the members, a member's level is not that of the first, a member stands where
 -- it may not.
-use Rattle.std.specs.Prelude.{◌≡◌, ℕ, ◌+◌, ◌==◌, nat_le, ◌&&◌, Bool, true, false, cond, Option, Some, None, List, [], ◌∷◌, ◌++◌, length, map, flat_map, Result, Ok, Err}
+use Rattle.std.specs.Prelude.{◌≡◌, ℕ, ◌+◌, ◌==◌, nat_le, ◌&&◌, Bool, true, false, cond, Option, Some, None, List, [], ◌∷◌, ◌++◌, length, map, Result, Ok, Err}
 use Rattle.std.specs.Option.{option_map_or}
 use Rattle.theory.specs.Terms.{Term, Sort, Pi, App, Fam, Con, top}
 use Rattle.theory.specs.Telescopes.{Telescope, products, functions}

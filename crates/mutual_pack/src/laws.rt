@@ -1,5 +1,8 @@
 //! What is packed, in the words of the theory.
+ghost use Rattle.mutual_pack.specs.EquationLaws.{SidesConvert};
+ghost use Rattle.mutual_pack.specs.EquationScopes.{SidesAreScoped};
 ghost use Rattle.mutual_pack.specs.InductionLaws.{InductionUnfolds};
+ghost use Rattle.mutual_pack.specs.PackedScopes.{PackedIsScoped};
 ghost use Rattle.mutual_pack.specs.PackingLaws.{LevelIsLow, MembersUnfold, NoMemberIsLeft, PackedIsPositive};
 
 /// The level of what is packed leaves room for two levels above it.
@@ -17,6 +20,11 @@ pub fn packed_is_positive()
     ensures { PackedIsPositive }
 {}
 
+/// The packed family is scoped.
+pub fn packed_is_scoped()
+    ensures { PackedIsScoped }
+{}
+
 /// The type of each constructor as packed converts to the written one, where the members are their definitions.
 pub fn members_unfold()
     ensures { MembersUnfold }
@@ -25,4 +33,14 @@ pub fn members_unfold()
 /// An induction converts to the eliminator of the packed family.
 pub fn induction_unfolds()
     ensures { InductionUnfolds }
+{}
+
+/// Both sides of the equation of each constructor convert.
+pub fn sides_convert()
+    ensures { SidesConvert }
+{}
+
+/// The equation of each constructor is scoped.
+pub fn sides_are_scoped()
+    ensures { SidesAreScoped }
 {}

@@ -1,5 +1,5 @@
 //! Members at their parameters as the packed family at a tag.
-ghost use Rattle.std.specs.Prelude.{◌≡◌, ◌<◌, ◌+◌, ◌^◌, Ok};
+ghost use Rattle.std.specs.Prelude.{◌<◌, ◌+◌, ◌^◌, Ok};
 ghost use Rattle.theory.specs.Terms as tree;
 ghost use Rattle.core_terms.specs.Answers.{Gives};
 ghost use Rattle.core_terms.specs.Meanings.{tree_of};
