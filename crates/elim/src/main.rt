@@ -2,11 +2,9 @@
 #![tactic(auto)]
 
 mod elim_program;
-mod function_laws;
 mod headline;
 mod k_laws;
 mod memory_laws;
-mod plan_laws;
 mod program_texts;
 mod refusal_laws;
 mod written_functions;

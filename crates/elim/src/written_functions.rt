@@ -1,6 +1,4 @@
 //! The definition of an accepted function by clauses, without how it is made.
-pub mod equation_laws;
-
 ghost use Rattle.elim.specs.written_functions.Laws.{FunctionsAreByClauses};
 
 /// An accepted function by clauses is the one that is written: each of its lines is true of its written clause. Its parts and its

@@ -33,10 +33,10 @@ use Rattle.function_session.specs.decisions.Known.{known_into}
 use Rattle.function_session.specs.decisions.Laws.{type_of_decision}
 use Rattle.function_session.specs.decisions.Naming.{named, number_named}
 use Rattle.function_session.specs.decisions.Refusals.{or_undecided}
-use Rattle.function_session.specs.function_lines.FunctionMade.{checked_entered}
+use Rattle.function_session.specs.function_lines.Opened.{checked_entered}
 use Rattle.function_session.specs.declared.decisions.decision.Decision.{Decision}
 use Rattle.function_session.specs.declared.decisions.naming.Named.{Named}
-use Rattle.function_session.proofs.EnteredDrafts.{IsEntered, checked-enters, code-enters}
+use Rattle.function_session.proofs.EnteredDrafts.{IsEntered, checked-enters, session-enters}
 use Rattle.function_session.proofs.DecisionTypes.{type-kept, type-same}
 
 -- ---- answers of the parts
@@ -141,7 +141,7 @@ decision-has P S decisions fuel x family into h =
       drafted = transport (λ own. decision_entry (length S.entries) own given.family f given.into known ≡ Ok draft) name drafted;
       made = made;
     }))
-    (code-enters S fuel given.name draft)))))
+    (session-enters S fuel given.name draft)))))
 
 -- its entry is the last one, and is that of the draft with the numbers that its names have by then
 pub decided-entered : (S : Signature) (decisions : List Decision) (fuel : ℕ) (x family into : Word) (given : Named) (T : Signature)

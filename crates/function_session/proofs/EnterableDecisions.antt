@@ -1,6 +1,6 @@
 -- The draft of a decision may enter the signature of a session: its terms are scoped and low, and its names are those of entries that are
 -- generated for the family.
-use Rattle.std.proofs.Common.{◌≡◌, inr, ℕ, suc, ◌+◌, ◌==◌, ◌<◌, ◌≤◌, nat_lt, max, Bool, true, false, cond, List, [], ◌∷◌, length, map, get_or, codes, Ok, IfOk, sym, subst as transport, arith}
+use Rattle.std.proofs.Common.{◌≡◌, inr, ℕ, suc, ◌+◌, ◌==◌, ◌<◌, ◌≤◌, nat_lt, max, Bool, true, false, cond, Option, Some, None, List, [], ◌∷◌, length, map, get_or, codes, Result, Ok, Err, IfOk, refl, sym, subst as transport, arith}
 use Rattle.std.specs.List.{All}
 use Rattle.std.proofs.lemmas.Bool.Decides.{nat_tests}
 use Rattle.std.proofs.lemmas.List.{length-map}
@@ -11,11 +11,15 @@ use Rattle.theory.specs.Signatures.{Signature, Definition, FamilyOf, IsEntryAt}
 use Rattle.theory.specs.Terms.{Term, height, top}
 use Rattle.theory.proofs.Pushing.{prefix_reflexive}
 use Rattle.core_terms.specs.Answers.{bounded}
+use Rattle.core_terms.specs.declared.stop.Stop.{Stop}
+use Rattle.core_terms.specs.declared.stop.Stop.TheVariants.{Deep}
 use Rattle.core_terms.proofs.Answers.{and_then-has, bounded-has}
 use Rattle.core_sig.specs.Drafts.{Draft, drafted, generated_name}
 use Rattle.core_sig.specs.EntryTerms.{EachTerm}
 use Rattle.core_sig.specs.FamilyShapes.{family_shape}
 use Rattle.core_sig.specs.ScopedDrafts.{IsScopedDraft}
+use Rattle.kernel_reduce.specs.Entries.{family_at}
+use Rattle.kernel_reduce.proofs.LookUps.{family-found}
 use Rattle.clause_reports.specs.Generated.{Case, NoConfusion}
 use Rattle.decide_eq.specs.Comparisons.{confusions_of}
 use Rattle.decide_eq.specs.DecisionEntries.{confusion_name, decided_family, decision_entry, decision_term, has_confusions, names_for}
@@ -26,9 +30,11 @@ use Rattle.decide_eq.proofs.ScopedDecisions.{decision-scoped}
 use Rattle.drafts.specs.draft_entering.Conditions.{IsDefinition, IsEnterable, IsEnterableDraft}
 use Rattle.drafts.proofs.draft_entering.TableLookups.{listed-named}
 use Rattle.elab_session.specs.Sessions.{IsReady}
+use Rattle.function_session.specs.decisions.Entering.{MayEnter, draft_of_family}
 use Rattle.function_session.specs.decisions.Known.{known_into}
 use Rattle.function_session.specs.decisions.Laws.{IsHeld, type_of_decision}
 use Rattle.function_session.specs.declared.decisions.decision.Decision.{Decision}
+use Rattle.function_session.specs.declared.decisions.naming.Named.{Named}
 use Rattle.function_session.proofs.DeclaredDecisions.{decision-drafted}
 
 -- ---- decisions that are known
@@ -124,3 +130,21 @@ decision-enterable S decisions name n f into d ready held at plain is_drafted =
           transport (All (IsEnterable S)) (sym is.same_names)
           (names-enter S n f at (plain-level S n into known f (at-family S n f at) plain));
     }
+
+-- ---- the entry of a decision
+
+no-draft : (d : Draft) → ◌≡◌ {A = Result Draft Stop} (Err Deep) (Ok d) → ⊥
+no-draft d h = cc
+
+entry-enters : (S : Signature) (decisions : List Decision) (d : Named) → IsReady S → All (IsHeld S) decisions
+    → plain_family S d.family d.into (known_into d.into decisions) ≡ Ok tt → MayEnter S d (known_into d.into decisions)
+entry-enters S decisions d ready held plain draft is = by (family_at S d.family) refl is
+  where
+    by : (o : Option Family) → family_at S d.family ≡ o → draft_of_family S d (known_into d.into decisions) o ≡ Ok draft → IsEnterableDraft S draft
+    by (Some f) at made = decision-enterable S decisions d.name d.family f d.into draft ready held (family-found S d.family f at) plain made
+    by None at made = absurd (no-draft draft made)
+
+pub decision-enters : (S : Signature) (decisions : List Decision) (d : Named) (known : Known) → known ≡ known_into d.into decisions → IsReady S
+    → All (IsHeld S) decisions → plain_family S d.family d.into known ≡ Ok tt → MayEnter S d known
+decision-enters S decisions d known same ready held =
+    transport (λ k. plain_family S d.family d.into k ≡ Ok tt → MayEnter S d k) (sym same) (entry-enters S decisions d ready held)

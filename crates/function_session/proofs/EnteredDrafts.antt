@@ -1,29 +1,25 @@
--- A draft that enters in code enters as is meant, and brings its entry with the numbers that its names have by then.
-use Rattle.std.proofs.Common.{◌≡◌, ℕ, List, Result, Ok, Err, IfOk, refl, sym, ap, ◌∙◌, subst as transport}
+-- A draft that enters in a session enters as is meant, and brings its entry with the numbers that its names have by then.
+use Rattle.std.proofs.Common.{◌≡◌, ℕ, List, Result, Ok, Err, IfOk, refl, sym, ap, ◌∙◌, subst as transport, Bool, true, false, cond}
 use Rattle.theory.specs.Signatures.{Signature, Definition}
 use Rattle.theory.specs.Terms.{Term}
 use Rattle.theory.specs.WellFormed.{IsDefinition, IsWellFormed, pushed}
-use Rattle.core_terms.specs.Answers.{SpentOr}
-use Rattle.core_terms.specs.declared.stop.Stop.TheVariants.{Deep}
 use Rattle.core_terms.proofs.Answers.{Answers, and_next-has}
 use Rattle.core_sig.specs.Drafts.{Draft}
 use Rattle.core_sig.specs.Settling.{renumbered, renumbered_entry, settled_number}
-use Rattle.drafts.specs.draft_checks.Checks.{enterable, unmarked}
+use Rattle.drafts.specs.draft_checks.Checks.{unmarked}
 use Rattle.family_check.specs.Entering.{Entered, define_of, entered}
 use Rattle.family_check.specs.Scopes.{HasPrelude}
 use Rattle.clause_reports.specs.DraftEntering.{enter_all, enter_draft_of, enter_entry, enter_needed, mentioned}
 use Rattle.clause_reports.specs.elaboration.Refusals as function
-use Rattle.clause_reports.specs.elaboration.Refusals.{Halts, owner_of, reporting}
+use Rattle.clause_reports.specs.elaboration.Refusals.{owner_of, reporting}
 use Rattle.clause_reports.proofs.Keeping.{Grows, GrowsTo, enter_all-grows, enter_entry-grows, enter_needed-grows, grows_on, prelude-on, rejected-has, weaker-of-two}
 use Rattle.clause_reports.proofs.elaboration.Keeping.{no_report-has}
 use Rattle.elab_session.proofs.Resolved.{last-entry}
 use Rattle.elab_session.proofs.WrittenDefinitions.{definition-of}
 use Rattle.function_session.specs.decisions.Entering as decisions
 use Rattle.function_session.specs.decisions.Entering.{or_refused}
-use Rattle.function_session.specs.function_lines.FunctionMade.{checked_entered, draft_entered, draft_opened}
-use Rattle.function_session.specs.function_lines.Laws.{Agrees}
+use Rattle.function_session.specs.function_lines.Opened.{checked_entered, deep}
 use Rattle.function_session.proofs.OwnEntry.{define-enters}
-use Rattle.function_session.proofs.function_lines.Agreeing.{agrees-if, agrees-same, spent}
 
 -- T has the entries of S, others, and then that of the draft, a definition with the name and the type
 pub record IsEntered (S : Signature) (name : List ℕ) (type : Term) (d : Draft) (T : Signature) : Type 0 where
@@ -72,31 +68,25 @@ checked-enters S owner name type term d left at kept =
     (no_report-has P S (owner_of owner 0) (enter_draft_of S d left).0 (draft-enters S name type term d left at kept))
     (λ e rest h. h)
 
--- ---- in code
-
--- a draft that enters in code enters as is meant
-pub opened-agrees : (S : Signature) (owner : List ℕ) (d : Draft) (left : ℕ) → Agrees (draft_opened S owner d left) (checked_entered S owner d left)
-opened-agrees S owner d left =
-    let meant = checked_entered S owner d left in
-    agrees-if (unmarked S) (draft_entered S owner d left) (Halts Deep) left meant
-    (agrees-if (enterable S d) meant (Halts Deep) left meant (agrees-same meant))
+-- ---- in a session
 
 or_refused-has : (P : Signature → Type 0) (fuel : ℕ) (r : Result Signature function.Refusal) → IfOk r P → IfOk (or_refused fuel r) P
 or_refused-has P fuel (Ok T) h = h
 or_refused-has P fuel (Err e) h = tt
 
-agrees-made : {A E : Type 0} (made meant : SpentOr E A) → Agrees made meant → IfOk made.0 (λ a. meant.0 ≡ Ok a)
-agrees-made {A} {E} made meant h = by made.0 made.1 h
-  where
-    by : (r : Result A E) (n : ℕ) → Agrees (spent r n) meant → IfOk r (λ a. meant.0 ≡ Ok a)
-    by (Ok a) n h = ap (λ (m : SpentOr E A). m.0) (h a n refl)
-    by (Err e) n h = tt
+is-answer : {A E : Type 0} (r : Result A E) → IfOk r (λ a. r ≡ Ok a)
+is-answer (Ok a) = refl
+is-answer (Err e) = tt
 
-pub code-enters : (S : Signature) (fuel : ℕ) (owner : List ℕ) (d : Draft)
+pub session-enters : (S : Signature) (fuel : ℕ) (owner : List ℕ) (d : Draft)
     → IfOk (decisions.draft_entered S fuel owner d) (λ T. (checked_entered S owner d fuel).0 ≡ Ok T)
-code-enters S fuel owner d =
-    or_refused-has (λ T. (checked_entered S owner d fuel).0 ≡ Ok T) fuel (draft_opened S owner d fuel).0
-    (agrees-made (draft_opened S owner d fuel) (checked_entered S owner d fuel) (opened-agrees S owner d fuel))
+session-enters S fuel owner d = by (unmarked S)
+  where
+    by : (b : Bool) → IfOk (or_refused fuel (cond b (checked_entered S owner d fuel) (deep fuel)).0) (λ T. (checked_entered S owner d fuel).0 ≡ Ok T)
+    by true =
+        or_refused-has (λ T. (checked_entered S owner d fuel).0 ≡ Ok T) fuel (checked_entered S owner d fuel).0
+        (is-answer (checked_entered S owner d fuel).0)
+    by false = tt
 
 -- ---- the signature with the entry
 

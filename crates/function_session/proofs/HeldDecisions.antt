@@ -126,6 +126,16 @@ with-held s (surf.Decide x family into) a kept is held = decision-held s x famil
 with-held s (surf.Mutual params members family tag tags) a kept is held = all-held-on s.signature a.signature s.decisions kept.longer held
 with-held s (surf.Fun x ty clauses) a kept is held = all-held-on s.signature a.signature s.decisions kept.longer held
 
+-- the decisions once a declaration is accepted
+held-if : (s : Session) (d : surf.Decl) (r : Result Elaborated Refusal) → IfOk r (KeepsReady s.signature) → IfOk r (IsAsDeclared s d) → HoldsDecisions s
+    → IfOk r (λ a. All (IsHeld a.signature) (decisions_with s.signature s.decisions d a.signature))
+held-if s d (Ok a) kept is held = with-held s d a kept is held
+held-if s d (Err e) kept is held = tt
+
+pub declared-held : (s : Session) (d : surf.Decl) → IsReady s.signature → HoldsDecisions s
+    → IfOk (declared_in s d) (λ a. All (IsHeld a.signature) (decisions_with s.signature s.decisions d a.signature))
+declared-held s d ready held = held-if s d (declared_in s d) (declare-ready s d ready) (declares-written s d ready) held
+
 after-held : (s : Session) (d : surf.Decl) (r : Result Elaborated Refusal) → IfOk r (KeepsReady s.signature) → IfOk r (IsAsDeclared s d)
     → HoldsDecisions s → HoldsDecisions (session_after s d r)
 after-held s d (Ok a) kept is held = with-held s d a kept is held

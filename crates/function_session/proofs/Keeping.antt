@@ -1,5 +1,5 @@
 -- After a declaration the signature is again that of a session, and the earlier entries stay.
-use Rattle.std.proofs.Common.{◌≡◌, ℕ, [], Result, Ok, Err, IfOk, refl, subst as transport}
+use Rattle.std.proofs.Common.{◌≡◌, ℕ, Bool, true, false, cond, [], Result, Ok, Err, IfOk, refl}
 use Rattle.theory.specs.Signatures.{Signature, IsPrefix}
 use Rattle.theory.specs.WellFormed.{IsWellFormed}
 use Rattle.surface_syntax.specs.Trees as surf
@@ -7,12 +7,12 @@ use Rattle.surface_syntax.specs.declared.tree.Word.{Word}
 use Rattle.resolve.specs.Functions.{Function, function}
 use Rattle.resolve.specs.declared.stop.ResolveStop.{ResolveStop}
 use Rattle.clause_reports.proofs.Keeping.{Any, any, weaker}
-use Rattle.clause_reports.specs.elaboration.Functions.{Lines, function_of}
+use Rattle.clause_reports.specs.elaboration.Functions.{Lines, function_of, planned_of}
 use Rattle.clause_reports.specs.elaboration.Refusals as refusal
-use Rattle.clause_reports.specs.elaboration.Refusals.{Elaborating}
+use Rattle.core_terms.proofs.Answers.{and_next-has}
 use Rattle.clause_reports.proofs.elaboration.Keeping.{function-keeps}
-use Rattle.function_session.specs.function_lines.FunctionMade.{function_made}
-use Rattle.function_session.proofs.function_lines.FunctionAnswers.{function-answers}
+use Rattle.drafts.specs.draft_checks.Checks.{unmarked}
+use Rattle.function_session.specs.function_lines.Opened.{deep, function_in, lines_closed}
 use Rattle.function_session.proofs.function_lines.Results.{longer-ready}
 use Rattle.elab_session.specs.Declaring.{Declared, accepted_as, declare_of}
 use Rattle.elab_session.specs.Sessions.{IsReady}
@@ -31,18 +31,19 @@ pub on_function-has : (P : Elaborated → Type 0) (r : Result Function ResolveSt
 on_function-has P (Ok f) go h = h f refl
 on_function-has P (Err e) go h = tt
 
-on_lines-has : (P : Elaborated → Type 0) (x : Word) (fuel : ℕ) (r : Result Lines refusal.Refusal)
+pub on_lines-has : (P : Elaborated → Type 0) (x : Word) (fuel : ℕ) (r : Result Lines refusal.Refusal)
     → IfOk r (λ l. P (with_lines (accepted_as x.text l.signature) l.lines)) → IfOk (on_lines x fuel r) P
 on_lines-has P x fuel (Ok l) h = h
 on_lines-has P x fuel (Err e) h = tt
 
--- a property of the lines that are meant is one of those that are made
-made-has : (P : Lines → Type 0) (S : Signature) (f : Function) (fuel : ℕ) → IfOk (function_of S f fuel).0 P → IfOk (function_made S f fuel).0 P
-made-has P S f fuel h = by (function_made S f fuel) refl
+-- a property of the lines that are meant is one of those of the session
+pub opened-has : (P : Lines → Type 0) (S : Signature) (f : Function) (fuel : ℕ) → (unmarked S ≡ true → IfOk (function_of S f fuel).0 P)
+    → IfOk (function_in S f fuel).0 P
+opened-has P S f fuel h = by (unmarked S) refl
   where
-    by : (r : Elaborating Lines) → function_made S f fuel ≡ r → IfOk r.0 P
-    by (Ok l, left) is = transport (λ (m : Elaborating Lines). IfOk m.0 P) (function-answers S f fuel l left is) h
-    by (Err e, left) is = tt
+    by : (b : Bool) → unmarked S ≡ b → IfOk (cond b (function_of S f fuel) (lines_closed S f fuel)).0 P
+    by true marks = h marks
+    by false marks = and_next-has Any P (planned_of S f fuel) (λ plan left. deep left) (any (planned_of S f fuel).0) (λ plan left u. tt)
 
 -- a property of a function that is added, by that of its lines
 pub function-has : (P : Elaborated → Type 0) (S : Signature) (fuel : ℕ) (x : Word) (ty : surf.Surf) (clauses : surf.Clauses)
@@ -51,8 +52,8 @@ pub function-has : (P : Elaborated → Type 0) (S : Signature) (fuel : ℕ) (x :
     → IfOk (elaborate_function S fuel x ty clauses) P
 function-has P S fuel x ty clauses h =
     on_function-has P (function S x ty clauses) (enter_function S fuel x) (λ f is.
-    on_lines-has P x fuel (function_made S f fuel).0
-    (made-has (λ l. P (with_lines (accepted_as x.text l.signature) l.lines)) S f fuel (h f is)))
+    on_lines-has P x fuel (function_in S f fuel).0
+    (opened-has (λ l. P (with_lines (accepted_as x.text l.signature) l.lines)) S f fuel (λ marks. h f is)))
 
 -- ---- the signature
 

@@ -21,14 +21,14 @@ use Rattle.function_session.specs.decisions.Naming.{named}
 use Rattle.function_session.specs.decisions.Refusals.{or_undecided, undecided}
 use Rattle.function_session.specs.declared.decisions.decision.Decision.{Decision}
 use Rattle.function_session.specs.declared.decisions.naming.Named.{Named}
-use Rattle.function_session.specs.function_lines.FunctionMade.{draft_opened}
+use Rattle.function_session.specs.function_lines.Opened.{draft_in}
 
 -- the refusals of the phases: of a name, of the family, of the draft's terms, and of the entry
 pub record AreRefusals (N : Refusal → Type 0) (S : Signature) (fuel : ℕ) (x family into : Word) : Type 0 where
   pub names : (e : ResolveStop) → named S x family into ≡ Err e → N (unresolved e)
   pub families : (n m : ℕ) (known : Known) (e : DecideStop) → plain_family S n m known ≡ Err e → N (undecided S n family into e)
   pub drafts : (d : Named) (known : Known) (e : Stop) → draft_for S d known ≡ Err e → N (stopped fuel e)
-  pub entries : (name : List ℕ) (d : Draft) (e : function.Refusal) → (draft_opened S name d fuel).0 ≡ Err e → N (refused_function fuel e)
+  pub entries : (name : List ℕ) (d : Draft) (e : function.Refusal) → (draft_in S name d fuel).0 ≡ Err e → N (refused_function fuel e)
 
 resolved-refused : (N : Refusal → Type 0) (r : Result Named ResolveStop) (go : Named → Result Elaborated Refusal)
     → ((e : ResolveStop) → r ≡ Err e → N (unresolved e)) → ((d : Named) → IfErr (go d) N) → IfErr (and_then (or_unresolved r) go) N
@@ -51,9 +51,9 @@ function-refused N fuel (Err e) h = h e refl
 
 draft-refused : (N : Refusal → Type 0) (S : Signature) (fuel : ℕ) (name : List ℕ) (r : Result Draft Stop)
     → ((e : Stop) → r ≡ Err e → N (stopped fuel e))
-    → ((d : Draft) (e : function.Refusal) → (draft_opened S name d fuel).0 ≡ Err e → N (refused_function fuel e))
+    → ((d : Draft) (e : function.Refusal) → (draft_in S name d fuel).0 ≡ Err e → N (refused_function fuel e))
     → IfErr (on_draft draft_entered S fuel name r) N
-draft-refused N S fuel name (Ok d) h k = function-refused N fuel (draft_opened S name d fuel).0 (k d)
+draft-refused N S fuel name (Ok d) h k = function-refused N fuel (draft_in S name d fuel).0 (k d)
 draft-refused N S fuel name (Err e) h k = h e refl
 
 pub decision-refused : (N : Refusal → Type 0) (S : Signature) (decisions : List Decision) (fuel : ℕ) (x family into : Word)

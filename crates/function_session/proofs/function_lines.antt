@@ -1,7 +1,6 @@
 pub mod Agreeing
-pub mod AgreeingFunctions
 pub mod EnteredPlans
-pub mod FunctionAnswers
+pub mod PhasedFunctions
 pub mod Provisional
 pub mod ReportedParts
 pub mod Results

@@ -8,7 +8,7 @@ use Rattle.resolve.specs.Functions as function
 use Rattle.resolve.specs.declared.stop.ResolveStop.{ResolveStop}
 use Rattle.clause_reports.specs.elaboration.Functions.{ClauseLine, Lines}
 use Rattle.clause_reports.specs.elaboration.Refusals as function_refusals
-use Rattle.function_session.specs.function_lines.FunctionMade.{function_made}
+use Rattle.function_session.specs.function_lines.Opened.{function_in}
 use Rattle.elab_session.specs.Declaring.{Declared, accepted_as, declare_of}
 use Rattle.elab_session.specs.Refusals.{unresolved}
 use Rattle.elab_session.specs.declared.refusal.Refusal.{Refusal}
@@ -38,7 +38,7 @@ on_lines x fuel (Err e) = Err (refused_function fuel e)
 
 -- a function that is resolved enters, with a line for each of its clauses
 abbrev pub enter_function : Signature → (fuel : ℕ) → Word → function.Function → Result Elaborated Refusal
-enter_function S fuel x f = on_lines x fuel (function_made S f fuel).0
+enter_function S fuel x f = on_lines x fuel (function_in S f fuel).0
 
 -- goes on with the resolved function
 abbrev pub on_function : Result function.Function ResolveStop → (function.Function → Result Elaborated Refusal) → Result Elaborated Refusal

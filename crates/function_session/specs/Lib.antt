@@ -1,9 +1,13 @@
 pub mod decisions
+pub mod equation_laws
+pub mod function_laws
 pub mod function_lines
+pub mod plan_laws
 pub mod Declaring
 pub mod Elaborating
 pub mod Evidence
 pub mod Laws
 pub mod Meanings
+pub mod Meant
 pub mod Refusals
 pub mod Sessions

@@ -1,8 +1,9 @@
-ghost use Rattle.std.specs.Prelude.{◌≡◌, length, IfOk, OnErr, OnOk};
+ghost use Rattle.std.specs.Prelude.{◌≡◌, length, All, IfOk, OnErr, OnOk};
 ghost use Rattle.surface_syntax.specs.TreeMeanings.{decl_of};
 ghost use Rattle.elab_session.specs.Sessions.{IsReady};
 ghost use Rattle.function_session.specs.Declaring as spec;
 ghost use Rattle.function_session.specs.Meanings.{Answers};
+ghost use Rattle.function_session.specs.decisions.Laws.{IsHeld};
 
 use crate::Accepted;
 use crate::decisions::{Decision, declare_decision};
@@ -22,6 +23,7 @@ pub(crate) fn declare(
     d: &Decl,
 ) -> Result<Accepted, Refusal>
     requires ready { IsReady sig.old }
+    requires held { All (IsHeld sig.old) decisions.old.items }
     ensures answer { Answers sig.new result (spec.declared_over sig.old decisions.old.items fuel (decl_of d.now)) }
     ensures err { OnErr result (sig.new ≡ sig.old) }
     ensures forgotten { OnErr result (decisions.new.items ≡ decisions.old.items) }

@@ -1,7 +1,6 @@
 //! A function by clauses, from its resolved form to the lines of its clauses.
 mod entering;
 mod functions;
-pub mod laws;
 mod levels;
 mod lines;
 mod planning;
@@ -10,5 +9,5 @@ mod reporting;
 mod values;
 
 pub(crate) use entering::enter_opened;
-pub use functions::function;
+pub(crate) use functions::function;
 pub use lines::ClauseLine;

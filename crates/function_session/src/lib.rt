@@ -9,9 +9,12 @@ mod accepted;
 mod decisions;
 mod declaring;
 mod elaborating;
+pub mod equation_laws;
+pub mod function_laws;
 pub mod function_lines;
 mod functions;
 pub mod laws;
+pub mod plan_laws;
 mod refusing;
 mod session;
 

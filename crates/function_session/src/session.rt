@@ -1,8 +1,9 @@
-ghost use Rattle.std.specs.Prelude.{◌≡◌, length, IfOk, OnErr, OnOk};
+ghost use Rattle.std.specs.Prelude.{◌≡◌, true, length, IfOk, OnErr, OnOk};
 ghost use Rattle.theory.specs.Prelude.{prelude};
 ghost use Rattle.theory.specs.Signatures.{IsPrefix};
 ghost use Rattle.core_terms.specs.declared.stop.Stop.TheVariants.{Memory};
 ghost use Rattle.surface_syntax.specs.TreeMeanings.{decl_of};
+ghost use Rattle.drafts.specs.draft_checks.Checks.{unmarked};
 ghost use Rattle.core_sig.specs.Kinds.{HasEntryKinds};
 ghost use Rattle.core_sig.specs.Meanings.{entry_of};
 ghost use Rattle.core_text.specs.RawEntries.{entry_shown};
@@ -12,8 +13,11 @@ ghost use Rattle.elab_session.specs.Sessions.{IsReady};
 ghost use Rattle.function_session.specs.Declaring.{declared_in, new_session, with_declared};
 ghost use Rattle.function_session.specs.Laws.{IsAsDeclared};
 ghost use Rattle.function_session.specs.Meanings.{Answers, elaborated_in};
+ghost use Rattle.function_session.specs.Meant.{declared_meant};
+ghost use Rattle.function_session.specs.decisions.Laws.{HoldsDecisions};
 
 use crate::declaring::declare;
+use crate::function_laws::declaration_laws::declared_is_meant;
 use crate::{Accepted, Decision};
 use core_sig::{Entry, Signature};
 use core_terms::Stop;
@@ -24,7 +28,7 @@ use surface_syntax::Decl;
 
 /// The signature that declarations add their entries to, the decisions of equality among these, in the order in which they were
 /// accepted, and the units that each declaration may spend. Whoever writes to the signature leaves it well formed, settled, and with
-/// the prelude at its front.
+/// the prelude at its front, and each of the decisions has its entry there.
 #[derive(Drop)]
 pub struct Session {
     sig: Signature,
@@ -34,8 +38,10 @@ pub struct Session {
 }
 
 impl Model for Session {
+    ghost use Rattle.std.specs.Prelude.{All};
     ghost use Rattle.elab_session.specs.Sessions.{IsReady};
     ghost use Rattle.function_session.specs.Sessions.{Session, session_code};
+    ghost use Rattle.function_session.specs.decisions.Laws.{IsHeld};
 
     ghost Value = { Session };
 
@@ -43,7 +49,7 @@ impl Model for Session {
 
     ghost view = { λ s. record { signature = s.sig; decisions = s.decisions.items; fuel = s.fuel } };
 
-    ghost invariant = { λ s. IsReady s.sig };
+    ghost invariant = { λ s. IsReady s.sig × All (IsHeld s.sig) s.decisions.items };
 }
 
 impl Session {
@@ -72,17 +78,23 @@ impl Session {
     }
 
     /// Adds the entries of a declaration. After a refusal the session is as it was.
+    ///
+    /// The answer is the one that is meant. If the name of a family or of a constructor holds a `!`, which no source file can write,
+    /// no draft may enter, and a declaration that has one to enter is Deep.
     pub fn declare(&mut self, d: &Decl) -> Result<Accepted, Refusal>
         ensures answer { Answers self.new.signature result (declared_in self.old (decl_of d.now)) }
+        ensures meant { unmarked self.old.signature ≡ true → Answers self.new.signature result (declared_meant self.old (decl_of d.now)) }
         ensures err { OnErr result (self.new ≡ self.old) }
         ensures next { OnOk result (self.new ≡ with_declared self.old (decl_of d.now) self.new.signature) }
         ensures fuel { self.new.fuel ≡ self.old.fuel }
         ensures longer { IsPrefix self.old.signature self.new.signature }
         ensures ready { IsReady self.new.signature }
+        ensures held { HoldsDecisions self.new }
         ensures written { IfOk result (λ a. IsAsDeclared self.old (decl_of d.now) (elaborated_in self.new.signature a)) }
         ensures begins { IfOk result (λ a. a.from ≡ length self.old.signature.entries) }
         ensures ends { IfOk result (λ a. a.to ≡ length self.new.signature.entries) }
     {
+        declared_is_meant();
         declare(self.alloc, &mut self.sig, &mut self.decisions, self.fuel, d)
     }
 

@@ -9,7 +9,7 @@ use Rattle.surface_syntax.specs.declared.tree.Word.{Word}
 use Rattle.resolve.specs.Families.{declared}
 use Rattle.resolve.specs.declared.stop.ResolveStop.{ResolveStop}
 use Rattle.function_session.specs.decisions.Naming.{named, named_as, number_found, number_named}
-use Rattle.elim.proofs.written_functions.equation_laws.LeftShowing.{ok-is}
+use Rattle.function_session.proofs.equation_laws.LeftShowing.{ok-is}
 
 -- the type of a value
 abbrev type-of : {A : Type 0} → A → Type 0

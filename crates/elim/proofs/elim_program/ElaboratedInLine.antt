@@ -26,7 +26,6 @@ use Rattle.resolve.specs.Families.{declared}
 use Rattle.resolve.specs.Functions as function
 use Rattle.resolve.specs.declared.stop.ResolveStop.{ResolveStop}
 use Rattle.clause_reports.specs.elaboration.Functions.{Lines}
-use Rattle.function_session.specs.function_lines.FunctionMade.{function_made}
 use Rattle.clause_reports.specs.elaboration.Refusals as refusal
 use Rattle.elab_session.specs.Declaring as session
 use Rattle.elab_session.specs.Laws.{IsAsWritten}
@@ -43,7 +42,7 @@ use Rattle.function_session.specs.decisions.Known.{known_into}
 use Rattle.function_session.specs.decisions.Naming.{named, number_found, number_named}
 use Rattle.function_session.specs.decisions.Refusals.{decidable, or_undecided, undecided}
 use Rattle.function_session.specs.declared.decisions.decision.Decision.{Decision}
-use Rattle.function_session.specs.function_lines.FunctionMade.{draft_opened}
+use Rattle.function_session.specs.function_lines.Opened.{draft_in, function_in}
 use Rattle.elim.proofs.program_texts.EnteredNames.{IsIn, DraftIn, if-ok}
 use Rattle.elim.proofs.elim_program.DecisionNames.{Named}
 use Rattle.elim.proofs.elim_program.FunctionInLine.{LinesIn, draft_opened-in, function-written}
@@ -96,7 +95,7 @@ lines-written x h fuel (Err e) k = refusal-written fuel e k
 
 function-in-line : (S : Signature) → NamesIn S → (x : Word) → WordIn x → (fuel : ℕ) (r : Result function.Function ResolveStop) → Resolves NameIn r
     → WrittenIn (on_function r (enter_function S fuel x))
-function-in-line S names x h fuel (Ok f) k = lines-written x h fuel (function_made S f fuel).0 (function-written S names f k fuel)
+function-in-line S names x h fuel (Ok f) k = lines-written x h fuel (function_in S f fuel).0 (function-written S names f k fuel)
 function-in-line S names x h fuel (Err e) k = unresolved-in e k
 
 -- ---- decisions of equality
@@ -145,7 +144,7 @@ refused-function-in fuel (Err e) h = refusal-written fuel e h
 
 draft-in : (S : Signature) → NamesIn S → (fuel : ℕ) (name : List ℕ) → IsIn name → (r : Result Draft Stop) → IfOk r DraftIn
     → Splits NamesIn TextIn (on_draft draft_entered S fuel name r)
-draft-in S names fuel name h (Ok d) k = refused-function-in fuel (draft_opened S name d fuel).0 (draft_opened-in S names name h d k fuel)
+draft-in S names fuel name h (Ok d) k = refused-function-in fuel (draft_in S name d fuel).0 (draft_opened-in S names name h d k fuel)
 draft-in S names fuel name h (Err e) k = stopped-in fuel e
 
 under-in : (name : List ℕ) → IsIn name → (r : Result Signature Refusal) → Splits NamesIn TextIn r → WrittenIn (accepted_under name r)

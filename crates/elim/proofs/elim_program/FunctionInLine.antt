@@ -1,9 +1,10 @@
 -- A function by clauses with a name in line: what is accepted of it has names in line, and its refusal is written in line.
-use Rattle.std.proofs.Common.{◌≡◌, ℕ, ◌+◌, ◌&&◌, Bool, true, false, cond, nat_lt, List, [], ◌∷◌, ◌++◌, length, map, take, drop, reverse, codes, Option, Some, None, Result, Ok, Err, IfOk, refl, subst}
+use Rattle.std.proofs.Common.{ℕ, ◌+◌, Bool, true, false, cond, nat_lt, List, [], ◌∷◌, ◌++◌, length, map, take, drop, reverse, codes, Option, Some, None, Result, Ok, Err, IfOk, refl}
 use Rattle.theory.specs.Terms.{Term, Var, Sort, Pi, Lam, App, Let, Const, Fam, Con, Elim, AxiomK}
 use Rattle.theory.specs.Telescopes.{Telescope, products, functions}
 use Rattle.theory.specs.Signatures.{Signature, Definition}
-use Rattle.core_terms.specs.Answers.{and_next, bounded, are_low}
+use Rattle.theory.specs.WellFormed.{provisional}
+use Rattle.core_terms.specs.Answers.{and_next, bounded}
 use Rattle.core_terms.specs.CaseTrees.{Walk}
 use Rattle.core_terms.specs.Clauses as clause
 use Rattle.core_terms.specs.Clauses.{Clause, Clauses, Right, Is}
@@ -18,28 +19,24 @@ use Rattle.kernel_reduce.specs.Reduction.{nesting}
 use Rattle.resolve.specs.Functions.{Function}
 use Rattle.tree_translation.specs.structural_rec.Calls.{has_constant}
 use Rattle.tree_translation.specs.structural_rec.Choices.{Choice, Failing, NotRecursive, At, NotSmaller, choose}
-use Rattle.tree_translation.specs.structural_rec.Uses.{Use}
 use Rattle.case_trees.specs.OwnWalks.{own_walk_of}
 use Rattle.case_trees.specs.Points.{under_solution}
 use Rattle.case_trees.specs.Trees.{split_of}
-use Rattle.tree_translation.specs.Entries.{ordered_variables, entries_with, helpers_before, and_more, motive_entry, step_entry, helper_entry, function_entry, side_names, part_term, step_telescope, step_goal, step_node, helper_node, function_by_recursion}
+use Rattle.tree_translation.specs.Entries.{translate, ordered_variables, entries_with, helpers_before, and_more, motive_entry, step_entry, helper_entry, function_entry, side_names, part_term, step_telescope, step_goal, step_node, helper_node, function_by_recursion}
 use Rattle.tree_translation.specs.Naming.{motive_name, step_name, helper_name, rec_name, part_named}
 use Rattle.tree_translation.specs.Plans.{Plan, Part, own_part as plan_part}
 use Rattle.tree_translation.specs.Recursion.{Recursion, recursion_of, order_of, ordered_telescope, ordered_term, first_positions}
 use Rattle.tree_translation.specs.Splits.{Node}
 use Rattle.tree_translation.specs.TreeTerms.{tree_names}
 use Rattle.with_abstraction.specs.Abstractions.{Abstracted, abstract_over_of}
-use Rattle.leaf_terms.specs.RecursionMade.{made_at}
-use Rattle.function_entries.specs.CodeEntries.{translate_made}
-use Rattle.exact_laws.proofs.translation_laws.MadeEntries.{translate_made-is_entries}
 use Rattle.clause_reports.specs.DraftEntering.{enter_draft_of, enter_needed, enter_mention, Names}
-use Rattle.drafts.specs.draft_checks.Checks.{enterable, unmarked}
-use Rattle.clause_lines.specs.CodeReports.{report_made}
-use Rattle.clause_reports.specs.elaboration.Functions.{ClauseLine, Lines, function_level, failing_call, position_chosen, own_part, helpers_finished, own_finished}
-use Rattle.clause_reports.specs.elaboration.Refusals.{Owner, OfType, OfDot, OfSide, OfWith, OfGoal, Halts, SelfInType, Elaborating, answers, or_halts, halting, granted, level_too_high, owner_of, reporting, walking}
+use Rattle.clause_reports.specs.Generated.{all_name}
+use Rattle.clause_reports.specs.Reports.{Reference, report_of}
+use Rattle.drafts.specs.draft_checks.Checks.{unmarked}
+use Rattle.clause_reports.specs.elaboration.Functions.{Following, Lines, enter_drafts, enter_plan, enter_values, first_domains, function_level, function_of, failing_call, helpers_finished, own_finished, own_part, plan_of, planned_of, position_chosen, recursion_in, report_parts, report_walks}
+use Rattle.clause_reports.specs.elaboration.Refusals.{Owner, OfType, OfDot, OfSide, OfWith, OfGoal, SelfInType, Elaborating, answers, or_halts, halting, granted, level_too_high, owner_of, reporting, walking}
 use Rattle.clause_reports.specs.elaboration.Walking.{Session, Opened, Walked, greatest_level, if_forced, check_dot, after_dots, without_self, if_low_level, and_level, open_over, opened, walk_clause, walk_right, walk_clauses}
-use Rattle.function_plans.specs.CodePlans.{own_tree_of, are_low_uses, chosen_made, own_alone, parts_made, plan_made}
-use Rattle.function_session.specs.function_lines.FunctionMade.{level_of, session_at, plan_over, checked_entered, draft_entered, draft_opened, drafts_entered, values_name, values_entered, translated, plan_entered, clause_line, reference_of, clause_reported, walks_reported, parts_reported, function_made}
+use Rattle.function_session.specs.function_lines.Opened.{checked_entered, deep, draft_in, function_in, lines_closed}
 use Rattle.elim.proofs.program_texts.EnteredNames.{IsIn, EntryIn, NamesAfter, DraftIn, enter_draft-in, enter_needed-in, enter_mention-in}
 use Rattle.elim.proofs.elim_program.FunctionTexts.{RefusalIn, ClauseIn, CallIn, at-owner, halts-in, granted-in, level-too-high-in, mismatch-in, walking-in, reporting-in, or-halts-in, self-in, not-smaller-in}
 use Rattle.elim.proofs.program_texts.QuietWalks.{Any}
@@ -161,15 +158,12 @@ position-in s is NotRecursive = tt
 position-in s is (At j) = tt
 position-in s is (NotSmaller rows) = not-smaller-in (map (failing_call s) rows) (calls-in s is rows)
 
-own_tree-in : (s : Session) → SessionIn s → (w : Walked) (count : ℕ) (order : List ℕ) (left : ℕ) → WritesIn Any (own_tree_of s w count order left)
-own_tree-in s is w count order left =
-    walking-in s.signature is.names s.name is.name
-    (split_of s.signature (ordered_telescope w.part.tele order) (ordered_term count order w.part.goal) (ordered_variables order count) w.clauses left).0
-
 own_finished-in : (s : Session) → SessionIn s → (r : Option Recursion) (w : Walked) (left : ℕ) → WritesIn Any (own_finished s r w left)
 own_finished-in s is r w left =
     let count = length w.part.tele in
-    written_next Any (own_tree_of s w count (order_of count r) left) _ (own_tree-in s is w count (order_of count r) left) (λ t rest. tt)
+    let order = order_of count r in
+    let made = split_of s.signature (ordered_telescope w.part.tele order) (ordered_term count order w.part.goal) (ordered_variables order count) w.clauses left in
+    written_next Any (walking s.signature s.name made) _ (walking-in s.signature is.names s.name is.name made.0) (λ t rest. tt)
 
 helpers_finished-in : (s : Session) → SessionIn s → (r : Option Recursion) (level number : ℕ) (helpers : List Walked) (left : ℕ) → WritesIn Any (helpers_finished s r level number helpers left)
 helpers_finished-in s is r level number [] left = tt
@@ -179,34 +173,21 @@ helpers_finished-in s is r level number (w ∷ helpers) left =
     (walking-in s.signature is.names (part_named s.name number) (part-in s.name number is.name) made.0) (λ t rest.
     written_next Any (helpers_finished s r level (number + 1) helpers rest) _ (helpers_finished-in s is r level (number + 1) helpers rest) (λ parts end. tt))
 
-chosen-in : (s : Session) → SessionIn s → (tele : Telescope) (uses : List Use) → Splits Any RefusalIn (chosen_made s tele uses)
-chosen-in s is tele uses = by (are_low tele && are_low_uses uses)
-  where
-    by : (low : Bool) → Splits Any RefusalIn (cond low (position_chosen s (choose s.signature tele s.own uses)) (Err (Halts Deep)))
-    by true = position-in s is (choose s.signature tele s.own uses)
-    by false = halts-in Deep
-
-parts-in : (s : Session) → SessionIn s → (position : Option ℕ) (level : ℕ) (w : Walked) (helpers : List Walked) (left : ℕ) → WritesIn Any (parts_made s position level w helpers left)
-parts-in s is position level w helpers left =
-    written_next Any (or_halts (made_at s.signature w.part.tele position), left) _ (or-halts-in (made_at s.signature w.part.tele position)) (λ r more.
-    written_next Any (own_alone s r w more) _ (written_next Any (own_finished s r w more) _ (own_finished-in s is r w more) (λ own end. tt)) (λ made end.
-    written_next Any (helpers_finished s r level 1 helpers end) _ (helpers_finished-in s is r level 1 helpers end) (λ parts last. tt)))
-
 abbrev PlanIn : Plan → Type 0
 PlanIn plan = IsIn plan.name
 
-plan_made-in : (s : Session) → SessionIn s → (type : Term) (arity level : ℕ) (w : Walked) (helpers : List Walked) (uses : List Use) (left : ℕ) → WritesIn PlanIn (plan_made s type arity level w helpers uses left)
-plan_made-in s is type arity level w helpers uses left =
-    written_next PlanIn (chosen_made s w.part.tele uses, left) _ (chosen-in s is w.part.tele uses) (λ position more.
-    written_next PlanIn (parts_made s position level w helpers more) _ (parts-in s is position level w helpers more) (λ parts end. is.name))
-
-plan-in : (S : Signature) → NamesIn S → (f : Function) → IsIn f.name → (level left : ℕ) → WritesIn PlanIn (plan_over S f level left)
+plan-in : (S : Signature) → NamesIn S → (f : Function) → IsIn f.name → (level left : ℕ) → WritesIn PlanIn (plan_of S f level left)
 plan-in S names f h level left =
-    let s = session_at S f in
+    let s : Session = record { signature = provisional S f.name f.type; name = f.name; own = length S.entries } in
     let is : SessionIn s = record { names = each-last EntryIn S.entries (Definition f.name f.type (Const (length S.entries))) names (h, tt); name = h } in
     let part = own_part f level in
     written_next PlanIn (walk_clauses s 0 part 0 1 f.clauses left) _ (walk_clauses-in s is 0 part 0 1 f.clauses left) (λ given rest.
-    plan_made-in s is f.type f.arity part.level (record { part = part; clauses = f.clauses; walks = given.walks; sides = given.sides }) given.helpers given.uses rest)
+    let w : Walked = record { part = part; clauses = f.clauses; walks = given.walks; sides = given.sides } in
+    let choice = choose S part.tele s.own given.uses in
+    written_next PlanIn (answers (position_chosen s choice) rest) _ (position-in s is choice) (λ position more.
+    let r = recursion_in S part.tele position in
+    written_next PlanIn (own_finished s r w more) _ (own_finished-in s is r w more) (λ own end.
+    written_next PlanIn (helpers_finished s r level 1 given.helpers end) _ (helpers_finished-in s is r level 1 given.helpers end) (λ helpers last. h))))
 
 -- ---- entries
 
@@ -271,58 +252,46 @@ entries-in S plan own (Some r) =
     (and_more-in (step_entry S plan r) (and_more (function_entry S plan (Some r)) (Ok [])) (step-in S plan own r)
     (and_more-in (function_entry S plan (Some r)) (Ok []) (function-entry-in S plan own (Some r)) tt)))
 
-drafts-in : (S : Signature) (plan : Plan) → PlanIn plan → (r : Result (List Draft) Stop) → translate_made S plan ≡ r → IfOk r DraftsIn
-drafts-in S plan own (Ok drafts) is =
-    subst (λ (x : Result (List Draft) Stop). IfOk x DraftsIn) (translate_made-is_entries S plan drafts is) (entries-in S plan own (recursion_of S plan))
-drafts-in S plan own (Err e) is = tt
-
 translated-in : {A : Type 0} (P : A → Type 0) (r : Result A Stop) → IfOk r P → Splits P RefusalIn (or_halts r)
 translated-in P (Ok a) h = h
 translated-in P (Err e) h = halts-in e
 
-draft_entered-in : (S : Signature) → NamesIn S → (name : List ℕ) → IsIn name → (d : Draft) → DraftIn d → (left : ℕ) → WritesIn NamesIn (draft_entered S name d left)
-draft_entered-in S names name h d k left = by (enterable S d)
-  where
-    by : (may : Bool) → WritesIn NamesIn (cond may (checked_entered S name d left) (answers (Err (Halts Deep)) left))
-    by true =
-        and_next-splits NamesAfter NamesIn RefusalIn (reporting S (owner_of name 0) (enter_draft_of S d left)) _
-        (reporting-in NamesAfter S names (owner_of name 0) h (enter_draft_of S d left).0 (enter_draft-in S d left names k)) (λ e rest i. i)
-    by false = halts-in Deep
+checked-in : (S : Signature) → NamesIn S → (name : List ℕ) → IsIn name → (d : Draft) → DraftIn d → (left : ℕ) → WritesIn NamesIn (checked_entered S name d left)
+checked-in S names name h d k left =
+    and_next-splits NamesAfter NamesIn RefusalIn (reporting S (owner_of name 0) (enter_draft_of S d left)) _
+    (reporting-in NamesAfter S names (owner_of name 0) h (enter_draft_of S d left).0 (enter_draft-in S d left names k)) (λ e rest i. i)
 
 pub draft_opened-in : (S : Signature) → NamesIn S → (name : List ℕ) → IsIn name → (d : Draft) → DraftIn d → (left : ℕ)
-    → WritesIn NamesIn (draft_opened S name d left)
+    → WritesIn NamesIn (draft_in S name d left)
 draft_opened-in S names name h d k left = by (unmarked S)
   where
-    by : (free : Bool) → WritesIn NamesIn (cond free (draft_entered S name d left) (answers (Err (Halts Deep)) left))
-    by true = draft_entered-in S names name h d k left
+    by : (free : Bool) → WritesIn NamesIn (cond free (checked_entered S name d left) (deep left))
+    by true = checked-in S names name h d k left
     by false = halts-in Deep
 
-drafts_entered-in : (S : Signature) → NamesIn S → (name : List ℕ) → IsIn name → (drafts : List Draft) → DraftsIn drafts → (left : ℕ) → WritesIn NamesIn (drafts_entered S name drafts left)
-drafts_entered-in S names name h [] all left = names
-drafts_entered-in S names name h (d ∷ drafts) all left =
-    and_next-splits NamesIn NamesIn RefusalIn (draft_entered S name d left) _ (draft_entered-in S names name h d all.0 left) (λ T rest k.
-    drafts_entered-in T k name h drafts all.1 rest)
+enter_drafts-in : (S : Signature) → NamesIn S → (name : List ℕ) → IsIn name → (drafts : List Draft) → DraftsIn drafts → (left : ℕ) → WritesIn NamesIn (enter_drafts S name drafts left)
+enter_drafts-in S names name h [] all left = names
+enter_drafts-in S names name h (d ∷ drafts) all left =
+    and_next-splits NamesAfter NamesIn RefusalIn (reporting S (owner_of name 0) (enter_draft_of S d left)) _
+    (reporting-in NamesAfter S names (owner_of name 0) h (enter_draft_of S d left).0 (enter_draft-in S d left names all.0)) (λ e rest k.
+    enter_drafts-in e.signature k name h drafts all.1 rest)
 
-values_entered-in : (S : Signature) → NamesIn S → (name : List ℕ) → IsIn name → (values : Option (List ℕ)) (left : ℕ) → WritesIn NamesIn (values_entered S name values left)
-values_entered-in S names name h None left = names
-values_entered-in S names name h (Some values) left =
-    let entered = enter_mention enter_needed S (Names values) left in
-    reporting-in NamesIn S names (owner_of name 0) h entered.0 (enter_mention-in enter_needed enter_needed-in S names (Names values) left)
+enter_values-in : (S : Signature) → NamesIn S → (plan : Plan) → PlanIn plan → (r : Option Recursion) (parts : List Part) (left : ℕ) → WritesIn NamesIn (enter_values S plan r parts left)
+enter_values-in S names plan own None parts left = names
+enter_values-in S names plan own (Some r) [] left = names
+enter_values-in S names plan own (Some r) (first ∷ []) left = names
+enter_values-in S names plan own (Some r) (first ∷ helper ∷ helpers) left =
+    let values = Names (all_name r.family plan.level) in
+    let entered = enter_mention enter_needed S values left in
+    reporting-in NamesIn S names (owner_of plan.name 0) own entered.0 (enter_mention-in enter_needed enter_needed-in S names values left)
 
-plan_entered-in : (S : Signature) → NamesIn S → (plan : Plan) → PlanIn plan → (left : ℕ) → WritesIn NamesIn (plan_entered S plan left)
-plan_entered-in S names plan own left = by (unmarked S)
-  where
-    entered : WritesIn NamesIn (translated S plan left)
-    entered =
-        and_next-splits DraftsIn NamesIn RefusalIn (or_halts (translate_made S plan), left) _
-        (translated-in DraftsIn (translate_made S plan) (drafts-in S plan own (translate_made S plan) refl)) (λ drafts rest all.
-        written_next NamesIn (or_halts (values_name S plan), rest) _ (or-halts-in (values_name S plan)) (λ values more.
-        and_next-splits NamesIn NamesIn RefusalIn (drafts_entered S plan.name drafts more) _ (drafts_entered-in S names plan.name own drafts all more) (λ T end k.
-        values_entered-in T k plan.name own values end)))
-
-    by : (free : Bool) → WritesIn NamesIn (cond free (translated S plan left) (answers (Err (Halts Deep)) left))
-    by true = entered
-    by false = halts-in Deep
+enter_plan-in : (S : Signature) → NamesIn S → (plan : Plan) → PlanIn plan → (left : ℕ) → WritesIn NamesIn (enter_plan S plan left)
+enter_plan-in S names plan own left =
+    let r = recursion_in S (first_domains plan.arity plan.type) plan.position in
+    and_next-splits DraftsIn NamesIn RefusalIn (answers (or_halts (translate S plan)) left) _
+    (translated-in DraftsIn (translate S plan) (entries-in S plan own (recursion_of S plan))) (λ drafts rest all.
+    and_next-splits NamesIn NamesIn RefusalIn (enter_drafts S plan.name drafts rest) _ (enter_drafts-in S names plan.name own drafts all rest) (λ T end k.
+    enter_values-in T k plan own r plan.parts end))
 
 -- ---- lines
 
@@ -330,24 +299,25 @@ pub record LinesIn (l : Lines) : Type 0 where
   pub names : NamesIn l.signature
   pub clauses : Each ClauseIn l.lines
 
-walks_reported-in : (plan : Plan) → PlanIn plan → (k number : ℕ) (walks : List Walk) (made : List ClauseLine) → Each ClauseIn made → (S : Signature) → NamesIn S → (left : ℕ)
-    → WritesIn LinesIn (walks_reported plan k number walks made S left)
-unfolding clause_reported
-walks_reported-in plan own k number [] made all S names left = record { names = names; clauses = all }
-walks_reported-in plan own k number (w ∷ walks) made all S names left =
-    let c = reference_of k number w in
+-- what goes on is written in line
+abbrev Follows : Following → Type 0
+Follows next = (S : Signature) → NamesIn S → (left : ℕ) → WritesIn LinesIn (next S left)
+
+report_walks-in : (plan : Plan) → PlanIn plan → (k number : ℕ) (walks : List Walk) (next : Following) → Follows next → Follows (report_walks plan k number walks next)
+report_walks-in plan own k number [] next h S names left = h S names left
+report_walks-in plan own k number (w ∷ walks) next h S names left =
+    let c : Reference = record { part = k; clause = number; walk = w } in
     let owner = owner_of (part_named plan.name k) number in
     let written = part-in plan.name k own in
-    and_next-splits ReportedIn LinesIn RefusalIn (clause_reported plan k number w S left) _
-    (reporting-in ReportedIn S names owner written (report_made S plan c left).0 (report-in S names plan own c left)) (λ r rest i.
-    walks_reported-in plan own k (number + 1) walks (made ++ clause_line plan k number r.line ∷ []) (each-last ClauseIn made (clause_line plan k number r.line) all written) r.signature i rest)
+    and_next-splits ReportedIn LinesIn RefusalIn (reporting S owner (report_of S plan c left)) _
+    (reporting-in ReportedIn S names owner written (report_of S plan c left).0 (report-in S names plan own c left)) (λ r rest i.
+    and_next-splits LinesIn LinesIn RefusalIn (report_walks plan k (number + 1) walks next r.signature rest) _
+    (report_walks-in plan own k (number + 1) walks next h r.signature i rest) (λ lines end j. record { names = j.names; clauses = (written, j.clauses) }))
 
-parts_reported-in : (plan : Plan) → PlanIn plan → (k : ℕ) (parts : List Part) (made : List ClauseLine) → Each ClauseIn made → (S : Signature) → NamesIn S → (left : ℕ)
-    → WritesIn LinesIn (parts_reported plan k parts made S left)
-parts_reported-in plan own k [] made all S names left = record { names = names; clauses = all }
-parts_reported-in plan own k (part ∷ parts) made all S names left =
-    and_next-splits LinesIn LinesIn RefusalIn (walks_reported plan k 0 part.walks made S left) _ (walks_reported-in plan own k 0 part.walks made all S names left) (λ lines rest i.
-    parts_reported-in plan own (k + 1) parts lines.lines i.clauses lines.signature i.names rest)
+report_parts-in : (plan : Plan) → PlanIn plan → (k : ℕ) (parts : List Part) → Follows (report_parts plan k parts)
+report_parts-in plan own k [] S names left = record { names = names; clauses = tt }
+report_parts-in plan own k (part ∷ parts) S names left =
+    report_walks-in plan own k 0 part.walks (report_parts plan (k + 1) parts) (report_parts-in plan own (k + 1) parts) S names left
 
 -- ---- all of it
 
@@ -368,14 +338,26 @@ function-level-in S names (Con n c) = tt
 function-level-in S names (Elim n m) = tt
 function-level-in S names (AxiomK i m) = tt
 
-level_of-in : (S : Signature) → NamesIn S → (type : Term) (left : ℕ) → WritesIn Any (level_of S type left)
-level_of-in S names type left =
-    let sorted = infer_sort_of S nesting [] type left in
-    written_next Any (granted S OfType sorted) _ (granted-in S names OfType refl sorted.0) (λ sort rest. function-level-in S names sort)
+-- the function's type, and its level
+sort-in : (S : Signature) → NamesIn S → (type : Term) (left : ℕ) → WritesIn Any (granted S OfType (infer_sort_of S nesting [] type left))
+sort-in S names type left = granted-in S names OfType refl (infer_sort_of S nesting [] type left).0
 
-pub function-written : (S : Signature) → NamesIn S → (f : Function) → IsIn f.name → (fuel : ℕ) → WritesIn LinesIn (function_made S f fuel)
-function-written S names f h fuel =
-    written_next LinesIn (level_of S f.type fuel) _ (level_of-in S names f.type fuel) (λ level rest.
-    and_next-splits PlanIn LinesIn RefusalIn (plan_over S f level rest) _ (plan-in S names f h level rest) (λ plan more own.
-    and_next-splits NamesIn LinesIn RefusalIn (plan_entered S plan more) _ (plan_entered-in S names plan own more) (λ T end k.
-    parts_reported-in plan own 0 plan.parts [] tt T k end)))
+planned-in : (S : Signature) → NamesIn S → (f : Function) → IsIn f.name → (fuel : ℕ) → WritesIn PlanIn (planned_of S f fuel)
+planned-in S names f h fuel =
+    written_next PlanIn (granted S OfType (infer_sort_of S nesting [] f.type fuel)) _ (sort-in S names f.type fuel) (λ sort rest.
+    written_next PlanIn (answers (function_level S sort) rest) _ (function-level-in S names sort) (λ level more. plan-in S names f h level more))
+
+meant-in : (S : Signature) → NamesIn S → (f : Function) → IsIn f.name → (fuel : ℕ) → WritesIn LinesIn (function_of S f fuel)
+meant-in S names f h fuel =
+    written_next LinesIn (granted S OfType (infer_sort_of S nesting [] f.type fuel)) _ (sort-in S names f.type fuel) (λ sort rest.
+    written_next LinesIn (answers (function_level S sort) rest) _ (function-level-in S names sort) (λ level more.
+    and_next-splits PlanIn LinesIn RefusalIn (plan_of S f level more) _ (plan-in S names f h level more) (λ plan end own.
+    and_next-splits NamesIn LinesIn RefusalIn (enter_plan S plan end) _ (enter_plan-in S names plan own end) (λ T last k.
+    report_parts-in plan own 0 plan.parts T k last))))
+
+pub function-written : (S : Signature) → NamesIn S → (f : Function) → IsIn f.name → (fuel : ℕ) → WritesIn LinesIn (function_in S f fuel)
+function-written S names f h fuel = by (unmarked S)
+  where
+    by : (free : Bool) → WritesIn LinesIn (cond free (function_of S f fuel) (lines_closed S f fuel))
+    by true = meant-in S names f h fuel
+    by false = and_next-splits PlanIn LinesIn RefusalIn (planned_of S f fuel) (λ plan left. deep left) (planned-in S names f h fuel) (λ plan left own. halts-in Deep)

@@ -14,7 +14,7 @@ use Rattle.clause_reports.specs.elaboration.Functions.{planned_of}
 use Rattle.resolve.specs.Functions.{Function}
 use Rattle.elim.specs.written_functions.Laws.{FunctionsAreByClauses}
 use Rattle.elim.specs.written_functions.PlannedFunctions.{IsByPlannedClauses, IsOfPlan}
-use Rattle.elim.proofs.written_functions.equation_laws.LeftShowing.{ok-is}
+use Rattle.function_session.proofs.equation_laws.LeftShowing.{ok-is}
 use Rattle.elim.specs.elim_program.Acceptance.{AcceptedIsShown, IsAccepted}
 use Rattle.elim.specs.elim_program.Headline.{IsShown}
 use Rattle.elim.specs.elim_program.Outputs.{head_lines}

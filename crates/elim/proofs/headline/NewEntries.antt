@@ -33,13 +33,13 @@ use Rattle.function_session.specs.Laws.{IsAsDeclared, IsWrittenFunction}
 use Rattle.function_session.specs.Sessions.{Session}
 use Rattle.function_session.specs.decisions.Known.{known_into}
 use Rattle.function_session.specs.decisions.Laws.{IsWrittenDecision}
-use Rattle.function_session.specs.function_lines.FunctionMade.{checked_entered}
+use Rattle.function_session.specs.function_lines.Opened.{checked_entered}
 use Rattle.function_session.proofs.Keeping.{function-has}
 use Rattle.function_session.proofs.OwnEntry.{halts-is}
 use Rattle.function_session.proofs.Planned.{function-planned}
 use Rattle.function_session.proofs.DeclaredDecisions.{IsDecided, decision-has}
 use Rattle.elim.proofs.written_functions.Walked.{is-ok}
-use Rattle.elim.proofs.written_functions.equation_laws.LeftShowing.{ok-is}
+use Rattle.function_session.proofs.equation_laws.LeftShowing.{ok-is}
 use Rattle.elim.proofs.elim_program.DecisionNames.{Named}
 use Rattle.elim.proofs.elim_program.Lines.{if_ok}
 use Rattle.elim.specs.headline.NewEntries.{AreNewEntries, IsNewEntry, axiom_k, drafted, drafted_entry, eliminator, generated, proof}

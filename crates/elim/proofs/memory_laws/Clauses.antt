@@ -12,28 +12,24 @@ use Rattle.core_terms.specs.Verdicts.{Verdict}
 use Rattle.core_terms.specs.Verdicts.Verdict.{Yes, No}
 use Rattle.core_terms.specs.declared.stop.Stop.{Stop}
 use Rattle.kernel_reduce.specs.Reduction.{nesting}
-use Rattle.tree_translation.specs.structural_rec.Choices.{At, Choice, NotRecursive, NotSmaller, choose}
-use Rattle.tree_translation.specs.structural_rec.Uses.{Use}
+use Rattle.tree_translation.specs.structural_rec.Choices.{At, Choice, NotRecursive, NotSmaller}
 use Rattle.case_trees.specs.Points.{under_solution}
 use Rattle.case_trees.specs.Stops as tree
 use Rattle.case_trees.specs.Stops.{Stopping, TreeStop}
 use Rattle.with_abstraction.specs.Abstractions.{Abstracted, abstract_over_of}
 use Rattle.with_abstraction.specs.NormalForms.{normal_forms_of, plain_normals_of}
-use Rattle.tree_translation.specs.Entries.{ordered_variables}
-use Rattle.tree_translation.specs.Recursion.{Recursion, order_of, ordered_telescope, ordered_term}
+use Rattle.tree_translation.specs.Recursion.{Recursion}
 use Rattle.tree_translation.specs.Naming.{part_named}
 use Rattle.clause_reports.specs.Stops as report
 use Rattle.clause_reports.specs.Stops.{ReportStop, Reporting}
-use Rattle.clause_reports.specs.elaboration.Functions.{helpers_finished, own_finished, position_chosen}
+use Rattle.clause_reports.specs.elaboration.Functions.{helpers_finished, position_chosen}
 use Rattle.clause_reports.specs.elaboration.Refusals as refusal
 use Rattle.clause_reports.specs.elaboration.Refusals.{Elaborating, OfDot, OfGoal, OfSide, OfWith, Owner, Refusal, granted, halting, of_report, of_tree, or_ends, or_halts, or_ill_typed, or_no_report, owner_of, reporting, walking}
 use Rattle.clause_reports.specs.elaboration.Walking.{Opened, Session, Walked, after_dots, and_level, check_dot, if_forced, if_low_level, open_over, opened, walk_clause, walk_clauses, walk_right, without_self}
-use Rattle.function_plans.specs.CodePlans.{chosen_made, own_tree_of, parts_with, plan_made}
 use Rattle.elim.specs.memory_laws.Foreseen.{IsForeseen, IsForeseenFunction, IsForeseenReport, IsForeseenTree}
 use Rattle.elim.proofs.memory_laws.Runs.{Only, Ends, ok, no, now, done, next, either, low, if-low}
 use Rattle.elim.proofs.memory_laws.Kernel.{check, convertible, infer, infer-sort, normal}
 use Rattle.elim.proofs.memory_laws.Walks.{own-walk, split}
-use Rattle.elim.proofs.memory_laws.ProofWalks.{recursion-found}
 
 -- ---- refusals of functions
 
@@ -172,32 +168,9 @@ position s NotRecursive = ok
 position s (At j) = ok
 position s (NotSmaller rows) = no tt
 
-chosen : (s : Session) (tele : Telescope) (uses : List Use) → Only IsForeseenFunction (chosen_made s tele uses)
-chosen s tele uses = either _ (position s (choose s.signature tele s.own uses)) (no tt)
-
-own-tree : (s : Session) (w : Walked) (count : ℕ) (order : List ℕ) (left : ℕ) → Ends IsForeseenFunction (own_tree_of s w count order left)
-own-tree s w count order left =
-    walked s.signature s.name
-    (split s.signature (ordered_telescope w.part.tele order) (ordered_term count order w.part.goal) (ordered_variables order count) w.clauses left)
-
-own-part : (s : Session) (r : Option Recursion) (w : Walked) (left : ℕ) → Ends IsForeseenFunction (own_finished s r w left)
-own-part s r w left = next (own-tree s w (length w.part.tele) (order_of (length w.part.tele) r) left) (λ t rest. done)
-
 pub helpers : (s : Session) (r : Option Recursion) (level number : ℕ) (ws : List Walked) (left : ℕ)
     → Ends IsForeseenFunction (helpers_finished s r level number ws left)
 helpers s r level number [] left = done
 helpers s r level number (w ∷ ws) left =
     next (walked s.signature (part_named s.name number) (split s.signature w.part.tele w.part.goal w.part.terms w.clauses left)) (λ t rest.
     next (helpers s r level (number + 1) ws rest) (λ parts end. done))
-
-parts : (s : Session) (r : Option Recursion) (level : ℕ) (w : Walked) (ws : List Walked) (left : ℕ) → Ends IsForeseenFunction (parts_with s r level w ws left)
-parts s r level w ws left =
-    next (next (own-part s r w left) (λ own end. done)) (λ made end. next (helpers s r level 1 ws end) (λ parts last. done))
-
-pub plan : (s : Session) (type : Term) (arity level : ℕ) (w : Walked) (ws : List Walked) (uses : List Use) (left : ℕ)
-    → Ends IsForeseenFunction (plan_made s type arity level w ws uses left)
-plan s type arity level w ws uses left =
-    next (now {left = left} (chosen s w.part.tele uses)) (λ position more.
-    next
-    (next (now {left = more} (halted (recursion-found s.signature w.part.tele position))) (λ r rest. parts s r level w ws rest))
-    (λ parts end. done))

@@ -1,9 +1,8 @@
 -- Decisions of equality, and whatever is declared in a session.
-use Rattle.std.proofs.Common.{◌≡◌, ℕ, Option, Some, None, List, [], length, Result, Err, IfErr, subst as transport}
+use Rattle.std.proofs.Common.{◌≡◌, ℕ, Option, Some, None, [], length, Result, Err, IfErr, subst as transport}
 use Rattle.std.specs.Option.{option_map_or}
 use Rattle.theory.specs.Families.{Family}
 use Rattle.theory.specs.Signatures.{Signature}
-use Rattle.core_sig.specs.Drafts.{Draft}
 use Rattle.core_sig.specs.FamilyShapes.{family_shape}
 use Rattle.core_sig.specs.Names.{find}
 use Rattle.core_sig.specs.Shapes.{Shape}
@@ -20,14 +19,14 @@ use Rattle.function_session.specs.Sessions.{Session}
 use Rattle.function_session.specs.decisions.Entering.{draft_for, draft_of_family}
 use Rattle.function_session.specs.decisions.Naming.{named, named_as, number_found, number_named}
 use Rattle.function_session.specs.decisions.Refusals.{undecided}
-use Rattle.function_session.specs.function_lines.FunctionMade.{draft_opened}
+use Rattle.function_session.specs.function_lines.Opened.{draft_in}
 use Rattle.function_session.proofs.RefusedDecisions.{decision-refused}
 use Rattle.elim.specs.memory_laws.Laws.{DeclaredNeedsNoMemory}
 use Rattle.elim.specs.memory_laws.Foreseen.{IsForeseen, IsForeseenFunction, IsForeseenName}
-use Rattle.elim.proofs.memory_laws.Runs.{Only, Ends, ok, no, now, and-then, deep, either, either-ends}
+use Rattle.elim.proofs.memory_laws.Runs.{Only, ok, no, and-then, deep, either}
 use Rattle.elim.proofs.memory_laws.Declared.{IsForeseenRefusal, never-memory, of-name, of-stop}
 use Rattle.elim.proofs.memory_laws.Drafts.{drafted-low}
-use Rattle.elim.proofs.memory_laws.Functions.{elaborates, one-draft, refused}
+use Rattle.elim.proofs.memory_laws.Functions.{draft-opened, elaborates, refused}
 use Rattle.elim.proofs.memory_laws.Names.{new-name}
 
 -- the type of a value
@@ -94,9 +93,6 @@ draft S d known = by (family_at S d.family)
     by (Some f) = search drafted-low
     by None = deep
 
-opens : (S : Signature) (name : List ℕ) (d : Draft) (left : ℕ) → Ends IsForeseenFunction (draft_opened S name d left)
-opens S name d left = either-ends _ (one-draft S name d left) (now (no tt))
-
 -- ---- declarations
 
 decides : (s : Session) (x family into : Word) → Only IsForeseenRefusal (declared_in s (surf.Decide x family into))
@@ -107,7 +103,7 @@ decides s x family into = record {
         of-family s.signature n family into e (of-err IsForeseenFamily (plain_family s.signature n m known) e (family-decided s.signature n m known) there);
     drafts = λ d known e there. of-stop s.fuel e (of-err IsForeseen (draft_for s.signature d known) e (draft s.signature d known) there);
     entries = λ name d e there.
-        refused s.fuel e (of-err IsForeseenFunction (draft_opened s.signature name d s.fuel).0 e (opens s.signature name d s.fuel).only there);
+        refused s.fuel e (of-err IsForeseenFunction (draft_in s.signature name d s.fuel).0 e (draft-opened s.signature name d s.fuel).only there);
   });
 }
 

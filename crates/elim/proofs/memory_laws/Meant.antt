@@ -1,6 +1,7 @@
 -- Functions by clauses as they are meant.
 use Rattle.std.proofs.Common.{ℕ, ◌+◌, Bool, true, false, Option, Some, None, Result, Ok, Err, List, [], ◌∷◌, length}
 use Rattle.theory.specs.Terms.{Term}
+use Rattle.theory.specs.Terms.Term.{Var, Sort}
 use Rattle.theory.specs.Telescopes.{Telescope}
 use Rattle.theory.specs.Signatures.{Signature}
 use Rattle.theory.specs.WellFormed.{provisional}
@@ -25,19 +26,23 @@ use Rattle.clause_reports.specs.ProofWalks.{Place, Proof, first_place, leaves_in
 use Rattle.clause_reports.specs.Reports.{Reference, at_leaf, at_vector, if_shadowed, on_candidate, order_in, report_of, shadowed, unless_converts, with_candidate}
 use Rattle.clause_reports.specs.Shadows.{TreeLeaf, convert_at_all, earlier_leaf, equation_at_leaf, leaves_of}
 use Rattle.clause_reports.specs.Stops.{Halts, Rejected, Rejection, ReportStop, Stuck}
-use Rattle.clause_reports.specs.elaboration.Functions.{Following, enter_drafts, enter_plan, enter_values, own_finished, own_part, plan_of, recursion_in, report_parts, report_walks, first_domains}
+use Rattle.clause_reports.specs.elaboration.Functions.{Following, enter_drafts, enter_plan, enter_values, function_level, function_of, own_finished, own_part, plan_of, planned_of, recursion_in, report_parts, report_walks, first_domains}
 use Rattle.clause_reports.specs.elaboration.Refusals.{OfType, owner_of}
 use Rattle.clause_reports.specs.elaboration.Walking.{Session, Walked}
 use Rattle.elim.specs.memory_laws.Foreseen.{IsForeseen, IsForeseenFunction, IsForeseenReport}
 use Rattle.elim.specs.memory_laws.Laws.{MeantForeseen}
-use Rattle.elim.proofs.memory_laws.Runs.{Only, Ends, ok, no, now, done, next, and-then, either-ends, low}
+use Rattle.elim.proofs.memory_laws.Runs.{Only, Ends, ok, no, now, done, next, and-then, either, either-ends, low}
 use Rattle.elim.proofs.memory_laws.Kernel.{convertible, infer-sort}
 use Rattle.elim.proofs.memory_laws.Walks.{split}
 use Rattle.elim.proofs.memory_laws.Drafts.{all, draft-enters, drafted-low, entry, halted as halted_report, halts, name-enters, needed, only-deep}
 use Rattle.elim.proofs.memory_laws.ProofWalks.{walks}
 use Rattle.elim.proofs.memory_laws.Reports.{vector}
 use Rattle.elim.proofs.memory_laws.Clauses.{all-clauses, grants, halted, helpers, position, reports, walked}
-use Rattle.elim.proofs.memory_laws.Functions.{low-level}
+
+low-level : (S : Signature) (sort : Term) → Only IsForeseenFunction (function_level S sort)
+low-level S (Sort J) = search either
+low-level S (Var n) = ok
+low-level S sort = ok
 
 -- ---- equations
 
@@ -176,9 +181,19 @@ all-lines : (plan : Plan) (k : ℕ) (parts : List Part) → Follows (report_part
 all-lines plan k [] S left = done
 all-lines plan k (part ∷ parts) S left = lines plan k 0 part.walks (all-lines plan (k + 1) parts) S left
 
-pub meant-foreseen : MeantForeseen
-meant-foreseen S f fuel =
-    (next (grants S OfType (infer-sort S nesting [] f.type fuel)) (λ sort rest.
+-- ---- all of it
+
+pub plans : (S : Signature) (f : Function) (fuel : ℕ) → Ends IsForeseenFunction (planned_of S f fuel)
+plans S f fuel =
+    next (grants S OfType (infer-sort S nesting [] f.type fuel)) (λ sort rest.
+    next (now {left = rest} (low-level S sort)) (λ level more. planned S f level more))
+
+pub makes : (S : Signature) (f : Function) (fuel : ℕ) → Ends IsForeseenFunction (function_of S f fuel)
+makes S f fuel =
+    next (grants S OfType (infer-sort S nesting [] f.type fuel)) (λ sort rest.
     next (now {left = rest} (low-level S sort)) (λ level more.
     next (planned S f level more) (λ plan end.
-    next (entered S plan end) (λ T last. all-lines plan 0 plan.parts T last))))).only.is
+    next (entered S plan end) (λ T last. all-lines plan 0 plan.parts T last))))
+
+pub meant-foreseen : MeantForeseen
+meant-foreseen S f fuel = (makes S f fuel).only.is

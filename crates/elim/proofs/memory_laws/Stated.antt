@@ -1,7 +1,7 @@
 -- The laws of the kernel, of entries and of functions as they are stated.
 use Rattle.elim.specs.memory_laws.Laws.{AxiomKForeseen, CheckForeseen, ConvertibleForeseen, DefinitionForeseen, EliminatorForeseen, FamilyForeseen, FunctionForeseen, InferForeseen, InferSortForeseen, NormalForeseen, SubtypeForeseen, WhnfForeseen}
 use Rattle.elim.proofs.memory_laws.Families.{axiom-k, declare, define, instance}
-use Rattle.elim.proofs.memory_laws.Functions.{makes}
+use Rattle.elim.proofs.memory_laws.Functions.{opened}
 use Rattle.elim.proofs.memory_laws.Kernel.{check, convertible, infer, infer-sort, normal, subtype, whnf}
 
 pub whnf-foreseen : WhnfForeseen
@@ -38,4 +38,4 @@ pub axiom_k-foreseen : AxiomKForeseen
 axiom_k-foreseen S i m left = (axiom-k S i m left).only.is
 
 pub function-foreseen : FunctionForeseen
-function-foreseen S f fuel = (makes S f fuel).only.is
+function-foreseen S f fuel = (opened S f fuel).only.is

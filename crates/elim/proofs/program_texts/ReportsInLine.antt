@@ -1,40 +1,31 @@
 -- After the report of a clause the names of the signature hold no line feed, and a refusal in it is written without one.
-use Rattle.std.proofs.Common.{ℕ, zero, suc, ◌+◌, nat_lt, Bool, true, false, cond, Option, List, [], ◌∷◌, ◌++◌, length, map, get_or, codes, Result, Ok, Err, IfOk, refl, arith}
+use Rattle.std.proofs.Common.{ℕ, zero, suc, ◌+◌, nat_lt, Bool, true, false, ◌&&◌, cond, Option, Some, None, List, [], ◌∷◌, ◌++◌, length, map, get_or, codes, Result, Ok, Err, IfOk, refl, arith}
 use Rattle.std.specs.Prelude.{◌%◌, ◌/◌, decimal}
 use Rattle.theory.specs.Terms.{Term}
-use Rattle.theory.specs.Telescopes.{Telescope}
+use Rattle.theory.specs.Telescopes.{Telescope, functions}
 use Rattle.theory.specs.Signatures.{Signature, Definition}
 use Rattle.core_terms.specs.Answers.{and_next, and_then, bounded}
-use Rattle.core_terms.specs.CaseTrees.{Tree, Walk}
+use Rattle.core_terms.specs.CaseTrees.{Walk}
 use Rattle.core_terms.specs.declared.stop.Stop.{Stop}
-use Rattle.core_terms.specs.declared.stop.Stop.TheVariants.{Deep}
-use Rattle.core_terms.proofs.Answers.{Splits, and_next-splits, and_then-splits, and_then-has}
+use Rattle.core_terms.proofs.Answers.{Splits, and_next-splits}
 use Rattle.core_sig.specs.Drafts.{Draft, drafted}
-use Rattle.core_sig.specs.Settling.{renumbered}
+use Rattle.core_sig.specs.Settling.{renumbered, renumbered_entry, settled_number}
 use Rattle.core_text.proofs.Feeds.{both, decimal-in}
 use Rattle.family_check.specs.Entering.{Entered}
 use Rattle.kernel_reduce.specs.Comparison.{convertible_of}
 use Rattle.kernel_reduce.specs.Reduction.{nesting}
+use Rattle.case_trees.specs.pattern_vectors.Matching.{matches_all}
 use Rattle.tree_translation.specs.Naming as naming
 use Rattle.tree_translation.specs.Naming.{Naming, drafted_in_order, helper_name, mentions, number_among, number_in, once, with_names, part_named}
-use Rattle.tree_translation.specs.Plans.{Plan}
-use Rattle.tree_translation.specs.Recursion.{Recursion}
-use Rattle.leaf_terms.specs.RecursionMade.{recursion_made}
-use Rattle.leaf_terms.specs.CodeNumbering.{names_at, numbered, places_of}
-use Rattle.clause_reports.specs.DraftEntering.{enter_draft_of}
-use Rattle.clause_reports.specs.Equations.{Equation, part_name, pats_of, closed_type}
-use Rattle.clause_reports.specs.ProofWalks.{Place, Proof, leaves_in}
-use Rattle.clause_reports.specs.Reports.{Reference, Reported, Absurd, some_absurd}
-use Rattle.clause_reports.specs.Shadows.{TreeLeaf, vector_of, leaves_of}
-use Rattle.clause_reports.specs.Stops.{Halts, ReportStop, Reporting, answers, or_halts, halting}
-use Rattle.clause_reports.proofs.Keeping.{any}
-use Rattle.clause_equations.specs.CodeEquations.{equation_made}
-use Rattle.drafts.specs.draft_checks.Checks.{enterable}
-use Rattle.drafts.specs.draft_entering.Depths.{own_name}
-use Rattle.proof_walks.specs.proof_terms.CodeProofs.{body_made, name_made, table_made}
-use Rattle.proof_walks.specs.Starts.{start_made, walk_made}
-use Rattle.clause_lines.specs.CodeReports.{PlannedClause, Judgement, Known, Candidate, in_plan, can_be_compared, equation_converts, first_order, equation_there, converts_there, converts_at_all, converts_at_leaves, if_shadowed, both_match, at_matched, at_vector_made, at_place, place_converts, is_earlier, shadowed_among, shadowed_made, denies, on_entered, entering_made, candidate_of, proof_judged, unless_converts, equation_judged, judged, on_judged, report_made}
-use Rattle.elim.proofs.program_texts.EnteredNames.{IsIn, ReportIn, NamesAfter, DraftIn, enter_draft-in}
+use Rattle.tree_translation.specs.Plans.{Part, Plan}
+use Rattle.clause_reports.specs.DraftEntering.{enter_all, enter_entry, enter_needed, mentioned}
+use Rattle.clause_reports.specs.Equations.{Equation, closed_type, equation_of, part_at, part_name, pats_of}
+use Rattle.clause_reports.specs.ProofTerms.{candidate, proof_name, proof_names, proof_term}
+use Rattle.clause_reports.specs.ProofWalks.{Place, Proof, first_place, leaves_in, walk_of}
+use Rattle.clause_reports.specs.Reports.{Reference, Reported, Absurd, at_leaf, at_vector, equation_report, if_shadowed, on_candidate, order_in, report_of, reported, shadowed, some_absurd, unless_converts, with_candidate}
+use Rattle.clause_reports.specs.Shadows.{TreeLeaf, convert_at_all, earlier_leaf, equation_at_leaf, leaves_of, vector_of}
+use Rattle.clause_reports.specs.Stops.{Halts, Rejected, Rejection, ReportStop, Reporting, Stuck, answers, or_halts, halting}
+use Rattle.elim.proofs.program_texts.EnteredNames.{IsIn, ReportIn, NamesAfter, DraftIn, enter_all-in, enter_needed-in, settled-in}
 use Rattle.elim.proofs.program_texts.QuietWalks.{Any, Quiet, quietly, halts-quiet, walk_tree-quiet}
 use Rattle.elim.proofs.program_texts.SessionInLine.{NamesIn}
 use Rattle.elim.proofs.program_texts.TokensInLine.{apart, cons-in}
@@ -75,19 +66,13 @@ ordered-made name base candidates type term h =
     let places = once [] (mentions base t ++ mentions base u) in
     drafted-made name base (map (λ i. get_or table i []) places) (renumbered (number_among base places) t) (renumbered (number_among base places) u) h
 
-renumbered-made : (name : List ℕ) (base : ℕ) (table : List (List ℕ)) (t u : Term) → IsIn name → IfOk (numbered name base table t u) DraftIn
-renumbered-made name base table t u h =
-    let places = places_of base t u in
-    drafted-made name base (names_at table places) (renumbered (number_among base places) t) (renumbered (number_among base places) u) h
-
-candidate-in : (S : Signature) (c : PlannedClause) (e : Equation) (proof : Proof) → IsIn c.plan.name → IfOk (candidate_of S c e proof) DraftIn
-candidate-in S c e proof h =
-    let name = name_made (part_name c.plan c.number) c.clause in
-    let own : IsIn name =
-    both (part_name c.plan c.number ++ codes "!c") (decimal (c.clause + 1)) (both (part_name c.plan c.number) (codes "!c") (part-in c.plan.name c.number h) refl) (decimal-in (c.clause + 1)) in
-    and_then-has Any DraftIn (table_made S c.part.level proof) _ (any (table_made S c.part.level proof)) (λ table u.
-    and_then-has Any DraftIn (body_made S (number_in (length S.entries) table) c.part.level e proof) _ (any (body_made S (number_in (length S.entries) table) c.part.level e proof)) (λ body v.
-    renumbered-made name (length S.entries) table (closed_type c.part.level e) body own))
+candidate-in : (S : Signature) (plan : Plan) (k clause : ℕ) (e : Equation) (proof : Proof) → IsIn plan.name → IfOk (candidate S plan k clause e proof) DraftIn
+candidate-in S plan k clause e proof h =
+    let L = (part_at plan k).level in
+    let own : IsIn (proof_name plan k clause) =
+    both (part_name plan k ++ codes "!c") (decimal (clause + 1)) (both (part_name plan k) (codes "!c") (part-in plan.name k h) refl) (decimal-in (clause + 1)) in
+    ordered-made (proof_name plan k clause) (length S.entries) (proof_names S L proof) (λ number. closed_type L e)
+    (λ number. functions e.context (proof_term S number L proof)) own
 
 pub halts-in : {A : Type 0} (P : A → Type 0) (r : Result A Stop) → IfOk r P → Splits P ReportIn (or_halts r)
 halts-in P (Ok a) h = h
@@ -95,29 +80,30 @@ halts-in P (Err e) h = tt
 
 -- ---- shadowed clauses
 
-compared-quiet : (S : Signature) (e : Equation) (left : ℕ) → Quiet (equation_converts S e left)
-compared-quiet S e left = by (can_be_compared S (length e.context) e.left e.right)
+all-quiet : (S : Signature) (plan : Plan) (k clause : ℕ) (order : List ℕ) (w : Walk) (leaves : List TreeLeaf) (left : ℕ)
+    → Quiet (convert_at_all S plan k clause order w leaves left)
+all-quiet S plan k clause order w [] left = tt
+all-quiet S plan k clause order w (l ∷ leaves) left =
+    quietly (answers (or_halts (equation_at_leaf S plan k clause order w l)) left) _ (halts-quiet (equation_at_leaf S plan k clause order w l)) (λ e rest.
+    quietly (halting (convertible_of S nesting e.left e.right rest)) _ (halts-quiet (convertible_of S nesting e.left e.right rest).0) (λ holds end.
+    by holds end (all-quiet S plan k clause order w leaves end)))
   where
-    by : (there : Bool) → Quiet (cond there (halting (convertible_of S nesting e.left e.right left)) (answers (Err (Halts Deep)) left))
-    by true = halts-quiet (convertible_of S nesting e.left e.right left).0
-    by false = tt
-
-there-quiet : (S : Signature) (c : PlannedClause) (r : Option Recursion) (order : List ℕ) (l : TreeLeaf) (left : ℕ) → Quiet (converts_there S c r order l left)
-there-quiet S c r order l left =
-    quietly (or_halts (equation_there S c r order l), left) _ (halts-quiet (equation_there S c r order l)) (λ e rest. compared-quiet S e rest)
-
-all-quiet : (S : Signature) (c : PlannedClause) (r : Option Recursion) (order : List ℕ) (leaves : List TreeLeaf) (left : ℕ) → Quiet (converts_at_all S c r order leaves left)
-all-quiet S c r order [] left = tt
-all-quiet S c r order (l ∷ leaves) left =
-    quietly (converts_there S c r order l left) _ (there-quiet S c r order l left) (λ holds rest. by holds rest (all-quiet S c r order leaves rest))
-  where
-    by : (holds : Bool) (end : ℕ) → Quiet (converts_at_all S c r order leaves end) → Quiet (cond holds (converts_at_all S c r order leaves end) (answers (Ok false) end))
+    by : (holds : Bool) (end : ℕ) → Quiet (convert_at_all S plan k clause order w leaves end)
+        → Quiet (cond holds (convert_at_all S plan k clause order w leaves end) (answers (Ok false) end))
     by true end h = h
     by false end h = tt
 
-leaves-quiet : (S : Signature) (c : PlannedClause) (leaves : List TreeLeaf) (left : ℕ) → Quiet (converts_at_leaves S c leaves left)
-leaves-quiet S c leaves left =
-    quietly (or_halts (recursion_made S c.plan), left) _ (halts-quiet (recursion_made S c.plan)) (λ r rest. all-quiet S c r (first_order c r) leaves rest)
+leaf-quiet : (S : Signature) (clause : ℕ) (leaves : List (ℕ × Place)) (left : ℕ) → Quiet (earlier_leaf S clause leaves left)
+leaf-quiet S clause [] left = tt
+leaf-quiet S clause (leaf ∷ leaves) left =
+    quietly (halting (convertible_of S nesting leaf.1.left leaf.1.right left)) _ (halts-quiet (convertible_of S nesting leaf.1.left leaf.1.right left).0) (λ holds rest.
+    by holds (nat_lt leaf.0 clause) rest (leaf-quiet S clause leaves rest))
+  where
+    by : (holds before : Bool) (rest : ℕ) → Quiet (earlier_leaf S clause leaves rest)
+        → Quiet (cond holds (earlier_leaf S clause leaves rest) (cond before (answers (Ok (Some leaf)) rest) (earlier_leaf S clause leaves rest)))
+    by true before rest h = h
+    by false true rest h = tt
+    by false false rest h = h
 
 -- the signature after a line
 abbrev pub ReportedIn : Reported → Type 0
@@ -129,104 +115,80 @@ Reports r = Splits ReportedIn ReportIn r.0
 after_quiet : {A : Type 0} (first : Reporting A) (go : A → ℕ → Reporting Reported) → Quiet first → ((a : A) (rest : ℕ) → Reports (go a rest)) → Reports (and_next first go)
 after_quiet first go h k = and_next-splits Any ReportedIn ReportIn first go h (λ a rest u. k a rest)
 
-if_shadowed-in : (S : Signature) → NamesIn S → (stop : ReportStop) → ReportIn stop → (earlier : ℕ) (context : Telescope) (vector : List Term) (leaves : List TreeLeaf) (holds : Bool)
-    → Splits ReportedIn ReportIn (if_shadowed S stop earlier context vector leaves holds)
-if_shadowed-in S names stop stopped earlier context vector leaves true = names
-if_shadowed-in S names stop stopped earlier context vector leaves false = stopped
+if_shadowed-in : (S : Signature) → NamesIn S → (r : Rejection) → ReportIn (Rejected r) → (earlier : ℕ) (context : Telescope) (vector : List Term) (leaves : List TreeLeaf) (holds : Bool)
+    → Splits ReportedIn ReportIn (if_shadowed S r earlier context vector leaves holds)
+if_shadowed-in S names r denied earlier context vector leaves true = names
+if_shadowed-in S names r denied earlier context vector leaves false = denied
 
-at_vector-in : (S : Signature) → NamesIn S → (c : PlannedClause) (stop : ReportStop) → ReportIn stop → (earlier : ℕ) (context : Telescope) (vector : List Term) (left : ℕ)
-    → Reports (at_vector_made S c stop earlier context vector left)
-at_vector-in S names c stop stopped earlier context vector left = by (both_match S c earlier vector) (leaves_of c.clause c.part.tree)
+at_vector-in : (S : Signature) → NamesIn S → (plan : Plan) (c : Reference) (r : Rejection) → ReportIn (Rejected r) → (earlier : ℕ) (context : Telescope) (vector : List Term) (left : ℕ)
+    → Reports (at_vector S plan c r earlier context vector left)
+at_vector-in S names plan c r denied earlier context vector left =
+    by (matches_all S (pats_of part c.clause) vector && matches_all S (pats_of part earlier) vector) (leaves_of c.clause part.tree)
   where
-    by : (match : Bool) (leaves : List TreeLeaf) → Reports (cond match (at_matched S c stop earlier context vector leaves left) (answers (Err stop) left))
+    part : Part
+    part = part_at plan c.part
+
+    by : (match : Bool) (leaves : List TreeLeaf)
+        → Reports
+        (cond match
+        (and_next (convert_at_all S plan c.part c.clause (order_in S plan c.part) c.walk leaves left) (λ holds rest.
+        answers (if_shadowed S r earlier context vector leaves holds) rest))
+        (answers (Err (Rejected r)) left))
     by true leaves =
-        after_quiet (converts_at_leaves S c leaves left) _ (leaves-quiet S c leaves left) (λ holds rest. if_shadowed-in S names stop stopped earlier context vector leaves holds)
-    by false leaves = stopped
+        after_quiet (convert_at_all S plan c.part c.clause (order_in S plan c.part) c.walk leaves left) _
+        (all-quiet S plan c.part c.clause (order_in S plan c.part) c.walk leaves left) (λ holds rest.
+        if_shadowed-in S names r denied earlier context vector leaves holds)
+    by false leaves = denied
 
-at_place-in : (S : Signature) → NamesIn S → (c : PlannedClause) (stop : ReportStop) → ReportIn stop → (earlier : ℕ) (p : Place) (left : ℕ) → Reports (at_place S c stop earlier p left)
-at_place-in S names c stop stopped earlier p left =
-    let vector = vector_of S (pats_of c.part c.clause) (pats_of c.part earlier) p.terms left in
-    after_quiet (halting vector) _ (halts-quiet vector.0) (λ v rest. at_vector-in S names c stop stopped earlier p.context v rest)
+at_leaf-in : (S : Signature) → NamesIn S → (plan : Plan) (c : Reference) (r : Rejection) → ReportIn (Rejected r) → (found : Option (ℕ × Place)) (left : ℕ)
+    → Reports (at_leaf S plan c r found left)
+at_leaf-in S names plan c r denied None left = denied
+at_leaf-in S names plan c r denied (Some leaf) left =
+    let part = part_at plan c.part in
+    let vector = vector_of S (pats_of part c.clause) (pats_of part leaf.0) leaf.1.terms left in
+    after_quiet (halting vector) _ (halts-quiet vector.0) (λ v rest. at_vector-in S names plan c r denied leaf.0 leaf.1.context v rest)
 
-place-quiet : (S : Signature) (p : Place) (left : ℕ) → Quiet (place_converts S p left)
-unfolding place_converts
-place-quiet S p left = halts-quiet (convertible_of S nesting p.left p.right left).0
-
-earlier-quiet : (S : Signature) (clause : ℕ) (leaf : ℕ × Place) (left : ℕ) → Quiet (is_earlier S clause leaf left)
-earlier-quiet S clause leaf left = quietly (place_converts S leaf.1 left) _ (place-quiet S leaf.1 left) (λ holds rest. tt)
-
-shadowed-in : (S : Signature) → NamesIn S → (c : PlannedClause) (stop : ReportStop) → ReportIn stop → (leaves : List (ℕ × Place)) (left : ℕ) → Reports (shadowed_among S c stop leaves left)
-shadowed-in S names c stop stopped [] left = stopped
-shadowed-in S names c stop stopped (leaf ∷ leaves) left =
-    after_quiet (is_earlier S c.clause leaf left) _ (earlier-quiet S c.clause leaf left) (λ found rest.
-    by found rest (at_place-in S names c stop stopped leaf.0 leaf.1 rest) (shadowed-in S names c stop stopped leaves rest))
-  where
-    by : (found : Bool) (rest : ℕ) → Reports (at_place S c stop leaf.0 leaf.1 rest) → Reports (shadowed_among S c stop leaves rest)
-        → Reports (cond found (at_place S c stop leaf.0 leaf.1 rest) (shadowed_among S c stop leaves rest))
-    by true rest h k = h
-    by false rest h k = k
+shadowed-in : (S : Signature) → NamesIn S → (plan : Plan) (c : Reference) (proof : Proof) (r : Rejection) → ReportIn (Rejected r) → (left : ℕ)
+    → Reports (shadowed S plan c proof r left)
+shadowed-in S names plan c proof r denied left =
+    after_quiet (earlier_leaf S c.clause (leaves_in proof) left) _ (leaf-quiet S c.clause (leaves_in proof) left) (λ found rest.
+    at_leaf-in S names plan c r denied found rest)
 
 -- ---- reports
 
-on_entered-in : (S : Signature) → NamesIn S → (c : PlannedClause) (proof : Proof) (name : List ℕ) (answer : Result Entered ReportStop) (left : ℕ)
-    → Splits NamesAfter ReportIn answer → Reports (on_entered S c proof name answer left)
-on_entered-in S names c proof name (Ok e) left h = h
-on_entered-in S names c proof name (Err stop) left h = by (denies name stop)
+on_candidate-in : (S : Signature) → NamesIn S → (plan : Plan) (c : Reference) (proof : Proof) (answer : Result Entered ReportStop) (left : ℕ)
+    → Splits NamesAfter ReportIn answer → Reports (on_candidate S plan c proof answer left)
+on_candidate-in S names plan c proof (Ok e) left h = h
+on_candidate-in S names plan c proof (Err (Rejected r)) left h = shadowed-in S names plan c proof r h left
+on_candidate-in S names plan c proof (Err (Halts e)) left h = h
+on_candidate-in S names plan c proof (Err (Stuck context u v why)) left h = h
+
+with_candidate-in : (S : Signature) → NamesIn S → (plan : Plan) (c : Reference) (proof : Proof) (d : Draft) → DraftIn d → (left : ℕ)
+    → Reports (with_candidate S plan c proof d left)
+with_candidate-in S names plan c proof d h left =
+    and_next-splits NamesIn ReportedIn ReportIn (enter_all enter_needed S (mentioned d) left) _ (enter_all-in enter_needed enter_needed-in S names (mentioned d) left) (λ T rest k.
+    let entered = enter_entry T (renumbered_entry (settled_number T d.base d.names) d.entry) rest in
+    on_candidate-in S names plan c proof entered.0 entered.1 (settled-in T k d h rest))
+
+unless_converts-in : (S : Signature) → NamesIn S → (plan : Plan) → IsIn plan.name → (c : Reference) (e : Equation) (holds : Bool) (left : ℕ)
+    → Reports (unless_converts S plan c e holds left)
+unless_converts-in S names plan own c e true left = names
+unless_converts-in S names plan own c e false left =
+    after_quiet (walk_of S plan c.part c.walk e (part_at plan c.part).tree left) _
+    (walk_tree-quiet S (part_at plan c.part).tree (first_place S plan c.part c.walk e) left) (λ proof rest.
+    and_next-splits DraftIn ReportedIn ReportIn (answers (or_halts (candidate S plan c.part c.clause e proof)) rest) _
+    (halts-in DraftIn (candidate S plan c.part c.clause e proof) (candidate-in S plan c.part c.clause e proof own))
+    (λ d end h. with_candidate-in S names plan c proof d h end))
+
+equation-in : (S : Signature) → NamesIn S → (plan : Plan) → IsIn plan.name → (c : Reference) (left : ℕ) → Reports (equation_report S plan c left)
+equation-in S names plan own c left =
+    after_quiet (answers (or_halts (equation_of S plan c.part c.clause c.walk)) left) _ (halts-quiet (equation_of S plan c.part c.clause c.walk)) (λ e rest.
+    after_quiet (halting (convertible_of S nesting e.left e.right rest)) _ (halts-quiet (convertible_of S nesting e.left e.right rest).0) (λ holds end.
+    unless_converts-in S names plan own c e holds end))
+
+pub report-in : (S : Signature) → NamesIn S → (plan : Plan) → IsIn plan.name → (c : Reference) (left : ℕ) → Reports (report_of S plan c left)
+report-in S names plan own c left = by (some_absurd (pats_of (part_at plan c.part) c.clause))
   where
-    by : (own : Bool) → Reports (cond own (shadowed_made S c proof stop left) (answers (Err stop) left))
-    by true = shadowed-in S names c stop h (leaves_in proof) left
-    by false = h
-
-entering-in : (S : Signature) → NamesIn S → (c : PlannedClause) (proof : Proof) (d : Draft) → DraftIn d → (left : ℕ) → Reports (entering_made S c proof d left)
-unfolding entering_made
-entering-in S names c proof d h left =
-    let entered = enter_draft_of S d left in on_entered-in S names c proof (own_name d) entered.0 entered.1 (enter_draft-in S d left names h)
-
--- a candidate has a name in line
-abbrev JudgedIn : Judgement → Type 0
-JudgedIn (Known line) = Unit {0}
-JudgedIn (Candidate proof d) = DraftIn d
-
-on_judged-in : (S : Signature) → NamesIn S → (c : PlannedClause) (j : Judgement) → JudgedIn j → (left : ℕ) → Reports (on_judged S c j left)
-on_judged-in S names c (Known line) h left = names
-on_judged-in S names c (Candidate proof d) h left = entering-in S names c proof d h left
-
-proof_judged-in : (S : Signature) (c : PlannedClause) → IsIn c.plan.name → (e : Equation) (proof : Proof) → Splits JudgedIn ReportIn (proof_judged S c e proof)
-proof_judged-in S c own e proof =
-    and_then-splits DraftIn JudgedIn ReportIn (or_halts (candidate_of S c e proof)) _ (halts-in DraftIn (candidate_of S c e proof) (candidate-in S c e proof own)) (λ d h. by d h (enterable S d))
-  where
-    by : (d : Draft) → DraftIn d → (there : Bool) → Splits JudgedIn ReportIn (cond there (Ok (Candidate proof d)) (Err (Halts Deep)))
-    by d h true = h
-    by d h false = tt
-
-abbrev Judges : Reporting Judgement → Type 0
-Judges r = Splits JudgedIn ReportIn r.0
-
-judged_after : {A : Type 0} (first : Reporting A) (go : A → ℕ → Reporting Judgement) → Quiet first → ((a : A) (rest : ℕ) → Judges (go a rest)) → Judges (and_next first go)
-judged_after first go h k = and_next-splits Any JudgedIn ReportIn first go h (λ a rest u. k a rest)
-
-walk-quiet : (S : Signature) (plan : Plan) (k : ℕ) (w : Walk) (e : Equation) (t : Tree) (left : ℕ) → Quiet (walk_made S plan k w e t left)
-walk-quiet S plan k w e t left =
-    quietly (or_halts (start_made S plan k w e), left) _ (halts-quiet (start_made S plan k w e)) (λ p rest. walk_tree-quiet S t p rest)
-
-unless_converts-in : (S : Signature) (c : PlannedClause) → IsIn c.plan.name → (e : Equation) (holds : Bool) (left : ℕ) → Judges (unless_converts S c e holds left)
-unless_converts-in S c own e true left = tt
-unless_converts-in S c own e false left =
-    judged_after (walk_made S c.plan c.number c.walk e c.part.tree left) _ (walk-quiet S c.plan c.number c.walk e c.part.tree left) (λ proof rest. proof_judged-in S c own e proof)
-
-equation-in : (S : Signature) (c : PlannedClause) → IsIn c.plan.name → (left : ℕ) → Judges (equation_judged S c left)
-equation-in S c own left =
-    judged_after (or_halts (equation_made S c.plan c.number c.clause c.walk), left) _ (halts-quiet (equation_made S c.plan c.number c.clause c.walk)) (λ e rest.
-    judged_after (equation_converts S e rest) _ (compared-quiet S e rest) (λ holds end. unless_converts-in S c own e holds end))
-
-judged-in : (S : Signature) (c : PlannedClause) → IsIn c.plan.name → (left : ℕ) → Judges (judged S c left)
-judged-in S c own left = by (some_absurd (pats_of c.part c.clause))
-  where
-    by : (there : Bool) → Judges (cond there (answers (Ok (Known Absurd)) left) (equation_judged S c left))
-    by true = tt
-    by false = equation-in S c own left
-
-pub report-in : (S : Signature) → NamesIn S → (plan : Plan) → IsIn plan.name → (c : Reference) (left : ℕ) → Reports (report_made S plan c left)
-report-in S names plan own c left =
-    let p = in_plan plan c in
-    and_next-splits JudgedIn ReportedIn ReportIn (judged S p left) _ (judged-in S p own left) (λ j rest h. on_judged-in S names p j h rest)
+    by : (there : Bool) → Reports (cond there (answers (Ok (reported S Absurd)) left) (equation_report S plan c left))
+    by true = names
+    by false = equation-in S names plan own c left

@@ -3,17 +3,16 @@ use Rattle.std.proofs.Common.{ℕ, Bool, true, false, cond, List, Result, Ok, Er
 use Rattle.theory.specs.Signatures.{Signature}
 use Rattle.core_terms.specs.declared.stop.Stop.{Stop}
 use Rattle.core_terms.specs.declared.stop.Stop.TheVariants as stop
-use Rattle.core_terms.specs.declared.stop.Stop.TheVariants.{Deep}
 use Rattle.core_sig.specs.Drafts.{Draft}
 use Rattle.clause_reports.proofs.Keeping.{Any}
 use Rattle.clause_reports.specs.DraftEntering.{enter_draft_of}
 use Rattle.clause_reports.specs.Stops as report
 use Rattle.clause_reports.specs.Stops.{ReportStop}
 use Rattle.clause_reports.specs.elaboration.Refusals as function
-use Rattle.clause_reports.specs.elaboration.Refusals.{Halts, Owner, answers, or_no_report, owner_of, reporting}
+use Rattle.clause_reports.specs.elaboration.Refusals.{Owner, or_no_report, owner_of, reporting}
 use Rattle.decide_eq.specs.declared.stop.DecideStop.{DecideStop}
 use Rattle.decide_eq.specs.declared.stop.DecideStop.TheVariants as undecided_as
-use Rattle.drafts.specs.draft_checks.Checks.{enterable, unmarked}
+use Rattle.drafts.specs.draft_checks.Checks.{unmarked}
 use Rattle.elab_session.specs.Refusals.{stopped, unresolved}
 use Rattle.elab_session.specs.declared.refusal.Refusal.{Refusal}
 use Rattle.elab_session.specs.declared.refusal.Refusal.TheVariants as reason
@@ -22,7 +21,7 @@ use Rattle.resolve.specs.declared.stop.ResolveStop.TheVariants as resolving
 use Rattle.surface_syntax.specs.declared.tree.Word.{Word}
 use Rattle.function_session.specs.Refusals.{refused_function}
 use Rattle.function_session.specs.decisions.Refusals.{undecided}
-use Rattle.function_session.specs.function_lines.FunctionMade.{checked_entered, draft_opened}
+use Rattle.function_session.specs.function_lines.Opened.{checked_entered, deep, draft_in}
 use Rattle.function_session.proofs.RefusedDecisions.{decision-refused}
 use Rattle.elim.specs.refusal_laws.Causes.{IsDenied}
 use Rattle.elim.specs.refusal_laws.Laws.{RejectedDecisionIsDenied}
@@ -54,14 +53,12 @@ checked-denied S name d left =
     next-refuses Any IfDenied entered _
     (splits-any IfDenied entered.0 (report-denied S (owner_of name 0) (enter_draft_of S d left).0 (entering-rejects S d left))) (λ e rest u. tt)
 
-opened-denied : (S : Signature) (name : List ℕ) (d : Draft) (left : ℕ) → Refuses IfDenied (draft_opened S name d left)
-opened-denied S name d left = by (unmarked S) (enterable S d)
+opened-denied : (S : Signature) (name : List ℕ) (d : Draft) (left : ℕ) → Refuses IfDenied (draft_in S name d left)
+opened-denied S name d left = by (unmarked S)
   where
-    by : (a b : Bool)
-        → Refuses IfDenied (cond a (cond b (checked_entered S name d left) (answers (Err (Halts Deep)) left)) (answers (Err (Halts Deep)) left))
-    by true true = checked-denied S name d left
-    by true false = tt
-    by false b = tt
+    by : (b : Bool) → Refuses IfDenied (cond b (checked_entered S name d left) (deep left))
+    by true = checked-denied S name d left
+    by false = tt
 
 -- ---- the other phases
 

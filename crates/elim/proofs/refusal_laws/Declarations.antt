@@ -9,7 +9,7 @@ use Rattle.elab_session.specs.declared.refusal.Refusal as declared
 use Rattle.clause_reports.specs.elaboration.Functions.{Lines}
 use Rattle.clause_reports.specs.elaboration.Refusals.{Refusal}
 use Rattle.function_session.proofs.function_lines.Provisional.{provisional-over}
-use Rattle.function_session.specs.function_lines.FunctionMade.{function_made}
+use Rattle.function_session.specs.function_lines.Opened.{function_in}
 use Rattle.function_session.proofs.Written.{function-scoped}
 use Rattle.function_session.specs.Elaborating.{Elaborated, enter_function, on_function, on_lines}
 use Rattle.function_session.specs.Refusals.{refused_function}
@@ -34,7 +34,7 @@ function-refused : (S : Signature) (fuel : ℕ) (x : Word) (ty : surf.Surf) (cs 
     → (r : Result Function ResolveStop) → function S x ty cs ≡ r → on_function r (enter_function S fuel x) ≡ Err e
     → IsRefusedFunction S fuel (surf.Fun x ty cs) e
 function-refused S fuel x ty cs e ready (Ok f) resolved is =
-    let p = lines-refused x fuel (function_made S f fuel).0 e is in
+    let p = lines-refused x fuel (function_in S f fuel).0 e is in
     of_function f p.0 resolved
     (refusal-is_caused S f fuel p.0 (provisional-over S f ready (function-scoped S (surf.Fun x ty cs) f resolved)) p.1.0) p.1.1
 function-refused S fuel x ty cs e ready (Err stop) resolved is = of_name stop resolved (sym (err-is {A = Elaborated} (unresolved stop) e is))

@@ -6,7 +6,7 @@ use Rattle.clause_reports.specs.elaboration.Refusals.{owner_of}
 use Rattle.clause_reports.specs.elaboration.Walking.{Opened}
 use Rattle.function_checks.proofs.function_clauses.OwnParts.{own-part-for}
 use Rattle.function_session.specs.function_lines.Conditions.{IsFunctionOver}
-use Rattle.function_session.specs.function_lines.FunctionMade.{session_at}
+use Rattle.function_session.specs.function_lines.Opened.{session_at}
 use Rattle.resolve.specs.Functions.{Function}
 use Rattle.theory.specs.Signatures.{Signature}
 use Rattle.elim.specs.refusal_laws.Parts.{IsPartOf, own, helper}

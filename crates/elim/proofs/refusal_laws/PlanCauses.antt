@@ -1,12 +1,10 @@
 -- The decreasing argument and the trees of a function: each refusal there has its cause.
-use Rattle.std.proofs.Common.{◌≡◌, ℕ, ◌+◌, ◌&&◌, Bool, true, false, cond, Option, Result, Ok, Err, IfErr, List, [], ◌∷◌, length, refl, sym, ap, ◌∙◌, subst as transport, arith}
+use Rattle.std.proofs.Common.{◌≡◌, ℕ, ◌+◌, Option, Result, Ok, Err, IfErr, List, [], ◌∷◌, length, refl, sym, ap, ◌∙◌, subst as transport, arith}
 use Rattle.theory.specs.Terms.{Term}
 use Rattle.theory.specs.Telescopes.{Telescope}
 use Rattle.theory.specs.Signatures.{Signature}
-use Rattle.core_terms.specs.Answers.{are_low}
 use Rattle.core_terms.proofs.Answers.{Splits}
 use Rattle.core_terms.specs.Clauses.{Clauses}
-use Rattle.core_terms.specs.declared.stop.Stop.TheVariants.{Deep}
 use Rattle.tree_translation.proofs.structural_rec.ChosenPositions.{not-smaller}
 use Rattle.tree_translation.specs.structural_rec.Choices.{Choice, NotRecursive, At, NotSmaller, choose}
 use Rattle.tree_translation.specs.structural_rec.Laws.{IsTelescopeOrder}
@@ -21,26 +19,25 @@ use Rattle.tree_translation.specs.Recursion.{Recursion, order_of, ordered_telesc
 use Rattle.clause_reports.proofs.Keeping.{Any}
 use Rattle.tree_translation.specs.Naming.{part_named}
 use Rattle.clause_reports.specs.elaboration.Functions.{helpers_finished, own_finished, own_part, plan_of, position_chosen, recursion_in}
-use Rattle.clause_reports.specs.elaboration.Refusals.{Halts, Refusal, answers, or_ends, or_halts, walking}
+use Rattle.clause_reports.specs.elaboration.Refusals.{Refusal, answers, or_ends, walking}
 use Rattle.clause_reports.specs.elaboration.Walking.{Given, Opened, Walked, walk_clauses}
 use Rattle.function_checks.proofs.function_clauses.Fitting.{clauses-for}
 use Rattle.function_checks.proofs.function_clauses.OwnParts.{own-columns, own-part-for, part-walked}
 use Rattle.function_plans.proofs.SameChoices.{choice-same, provisional-same, recursion-same}
 use Rattle.function_session.proofs.function_lines.SamePlans.{walked_of}
 use Rattle.function_session.specs.function_lines.Conditions.{IsFunctionOver}
-use Rattle.function_session.specs.function_lines.FunctionMade.{plan_given, plan_over, session_at}
-use Rattle.function_plans.proofs.Orders.{found-is, in-is}
+use Rattle.function_session.specs.function_lines.Opened.{session_at}
+use Rattle.function_plans.proofs.Orders.{in-is}
 use Rattle.function_plans.proofs.Starts.{IsStart, start-clauses, start-given, starts}
-use Rattle.function_plans.specs.CodePlans.{IsOwnWalked, are_low_uses, chosen_made, own_alone, own_tree_of, parts_made}
+use Rattle.function_plans.specs.CodePlans.{IsOwnWalked, own_tree_of}
 use Rattle.function_session.specs.Laws.{inner}
-use Rattle.leaf_terms.specs.RecursionMade.{made_at}
 use Rattle.resolve.specs.Functions.{Function}
 use Rattle.elim.specs.refusal_laws.Causes.{Caused, IsPartAt, of_split}
 use Rattle.elim.specs.refusal_laws.Parts.{IsTreeStart, from_columns, from_order, own}
-use Rattle.elim.proofs.refusal_laws.Chains.{Refuses, halts-caused, next-refuses, refused, walking-caused}
+use Rattle.elim.proofs.refusal_laws.Chains.{Refuses, next-refuses, refused, walking-caused}
 use Rattle.elim.proofs.refusal_laws.Ends.{end-caused}
 use Rattle.elim.proofs.refusal_laws.PartScopes.{part-walkable}
-use Rattle.elim.proofs.refusal_laws.WalkCauses.{AreHelpers, GivesHelpers, all-from, all-listed, clauses-caused, halting-is, splits-any}
+use Rattle.elim.proofs.refusal_laws.WalkCauses.{AreHelpers, GivesHelpers, all-from, all-listed, clauses-caused, splits-any}
 use Rattle.elim.specs.written_functions.Clauses.{with_own}
 
 -- ---- trees
@@ -146,51 +143,6 @@ walks-caused S f level left over =
     by (Ok given) is h = record { helpers = h; walked = is }
     by (Err e) is h = h
 
--- as it is made
-given-caused : (S : Signature) (f : Function) (level left more : ℕ) (given : Given) → IsFunctionOver (with_own S f) f → IsGivenBy S f level left given
-    → Refuses (Caused S f) (plan_given (session_at S f) f (own_part f level) given more)
-given-caused S f level left more given over by =
-    let s = session_at S f in
-    let N = Caused S f in
-    let tele = (own_part f level).tele in
-    let w = walked_of f level given in
-    next-refuses Any N (answers (chosen_made s tele given.uses) more) _
-    (splits-any N (chosen_made s tele given.uses) (choice (are_low tele && are_low_uses given.uses))) (λ position rest u.
-    let parts = parts_made s position level w given.helpers rest in
-    next-refuses Any N parts _ (splits-any N parts.0 (parts-caused position rest)) (λ all end v. tt))
-  where
-    choice : (low : Bool)
-        → IfErr
-        (cond low (position_chosen (session_at S f) (choose (with_own S f) (own_part f level).tele (length S.entries) given.uses)) (Err (Halts Deep)))
-        (Caused S f)
-    choice true = position-caused S f level left given _ by refl
-    choice false = tt
-
-    parts-caused : (position : Option ℕ) (rest : ℕ)
-        → Refuses (Caused S f) (parts_made (session_at S f) position level (walked_of f level given) given.helpers rest)
-    parts-caused position rest =
-        let s = session_at S f in
-        let N = Caused S f in
-        let tele = (own_part f level).tele in
-        let w = walked_of f level given in
-        let found = made_at (with_own S f) tele position in
-        next-refuses (λ r. found ≡ Ok r) N (answers (or_halts found) rest) _ (halting-is N found (halts-caused S f found)) (λ r end is.
-        let first = own_alone s r w end in
-        let same = found-is (with_own S f) tele position r (sym is) ∙ in-is (with_own S f) tele position in
-        let finished_part = own_finished s r w end in
-        next-refuses Any N first _
-        (splits-any N first.0
-        (next-refuses Any N finished_part _ (splits-any N finished_part.0 (own-caused S f level given position r end over same)) (λ own last v. tt)))
-        (λ made last u.
-        let helpers = helpers_finished s r level 1 given.helpers last in
-        next-refuses Any N helpers _ (splits-any N helpers.0 (helpers-caused S f r level 1 given.helpers last over by.helpers.helpers)) (λ parts final v. tt)))
-
-pub plan-caused : (S : Signature) (f : Function) (level left : ℕ) → IsFunctionOver (with_own S f) f → Refuses (Caused S f) (plan_over S f level left)
-plan-caused S f level left over =
-    next-refuses (IsGivenBy S f level left) (Caused S f) (walk_clauses (session_at S f) 0 (own_part f level) 0 1 f.clauses left) _
-    (walks-caused S f level left over) (λ given rest by. given-caused S f level left rest given over by)
-
--- as it is meant
 pub plan-meant : (S : Signature) (f : Function) (level left : ℕ) → IsFunctionOver (with_own S f) f
     → Refuses (Caused S f) (plan_of S f level left)
 plan-meant S f level left over =

@@ -33,7 +33,7 @@ use Rattle.clause_reports.specs.elaboration.Refusals.{Elaborating, OfDot, OfGoal
 use Rattle.clause_reports.specs.elaboration.Walking.{Given, Opened, Walked, after_dots, and_level, check_dot, greatest_level, if_forced, if_low_level, open_over, opened, walk_clause, walk_clauses, walk_right, without_self}
 use Rattle.function_checks.proofs.function_clauses.Fitting.{clause-for}
 use Rattle.function_session.specs.function_lines.Conditions.{IsFunctionOver}
-use Rattle.function_session.specs.function_lines.FunctionMade.{session_at}
+use Rattle.function_session.specs.function_lines.Opened.{session_at}
 use Rattle.function_session.specs.Laws.{inner, inner_of, inner_right}
 use Rattle.resolve.specs.Functions.{Function}
 use Rattle.elim.specs.refusal_laws.Causes.{Caused, IsPartAt, another_type, no_sort, no_type, of_walk, too_high}

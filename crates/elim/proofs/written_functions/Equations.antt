@@ -34,11 +34,11 @@ use Rattle.tree_translation.specs.RightSides.{is_helper}
 use Rattle.clause_reports.specs.Equations.{Equation, Site, all_shown, equation_of, in_signature, last_argument, left_side, number_of, own_number, part_at, pats_of, right_side, side_of, walk_site}
 use Rattle.tree_translation.specs.Naming.{part_named}
 use Rattle.clause_reports.specs.Reports.{some_absurd}
-use Rattle.elim.specs.written_functions.Fitting.{AllFit}
+use Rattle.function_session.specs.equation_laws.Fitting.{AllFit}
 use Rattle.clause_reports.specs.elaboration.Walking.{Opened, Opening, Walked, helper_arguments, helper_terms, opened}
-use Rattle.elim.proofs.written_functions.equation_laws.LeftShowing.{IsAt, equation-is, families-stay}
-use Rattle.elim.proofs.written_functions.equation_laws.OwnMatches.{IsMatched, walk-matched}
-use Rattle.elim.proofs.written_functions.equation_laws.ShownTerms.{FamiliesStay, all-fit, all-written}
+use Rattle.function_session.proofs.equation_laws.LeftShowing.{IsAt, equation-is, families-stay}
+use Rattle.function_session.proofs.equation_laws.OwnMatches.{IsMatched, walk-matched}
+use Rattle.function_session.proofs.equation_laws.ShownTerms.{FamiliesStay, all-fit, all-written}
 use Rattle.function_checks.proofs.function_clauses.Fitting.{clause-for}
 use Rattle.resolve.specs.Functions.{Function}
 use Rattle.resolve.specs.Scoping.{IsClause}

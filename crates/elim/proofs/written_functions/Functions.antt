@@ -1,5 +1,5 @@
 -- A function by clauses that is accepted is as it is written.
-use Rattle.std.proofs.Common.{◌≡◌, ℕ, zero, suc, ◌+◌, ◌<◌, ◌≤◌, List, [], ◌∷◌, drop, length, length-append, Ok, Err, IfOk, refl, sym, ap, ◌∙◌, subst as transport, arith, ap₂, true}
+use Rattle.std.proofs.Common.{◌≡◌, ℕ, zero, suc, ◌+◌, ◌<◌, ◌≤◌, List, [], ◌∷◌, drop, length, length-append, Ok, IfOk, refl, sym, ap, ◌∙◌, subst as transport, arith, ap₂, true}
 use Rattle.theory.specs.Terms.{Term}
 use Rattle.theory.specs.Signatures.{Definition, IsPrefix, Signature}
 use Rattle.theory.specs.SignatureScopes.{IsScoped}
@@ -20,17 +20,16 @@ use Rattle.clause_reports.proofs.Keeping.{Grows, grows_on, weaker, weaker-of-two
 use Rattle.clause_reports.specs.elaboration.Functions.{Lines, enter_plan, function_level, function_of, plan_of, planned_of, report_parts, first_domains, recursion_in}
 use Rattle.clause_reports.specs.elaboration.Refusals.{Elaborating, OfType, answers, granted}
 use Rattle.family_check.specs.Scopes.{HasPrelude}
-use Rattle.elim.proofs.written_functions.equation_laws.LeftShowing.{ok-is}
-use Rattle.function_session.proofs.function_lines.FunctionAnswers.{function-answers}
+use Rattle.function_session.proofs.equation_laws.LeftShowing.{ok-is}
 use Rattle.function_session.proofs.function_lines.Provisional.{provisional-over}
-use Rattle.function_session.specs.function_lines.FunctionMade.{function_made}
+use Rattle.function_session.specs.function_lines.Opened.{function_in}
 use Rattle.function_session.specs.function_lines.Conditions.{IsFunctionOver}
 use Rattle.function_session.proofs.OwnEntry.{HasOwn, own-typed}
 use Rattle.function_session.proofs.Planned.{function-planned}
 use Rattle.function_session.proofs.Written.{elaborates-written, function-new, function-scoped}
-use Rattle.function_session.specs.Elaborating.{Elaborated, elaborate_function, enter_function, on_lines, with_lines}
+use Rattle.function_session.specs.Elaborating.{Elaborated, elaborate_function, enter_function, with_lines}
 use Rattle.function_session.specs.Laws.{IsWrittenFunction}
-use Rattle.function_session.proofs.Keeping.{on_function-has}
+use Rattle.function_session.proofs.Keeping.{on_function-has, on_lines-has, opened-has}
 use Rattle.elab_session.specs.Declaring.{accepted_as}
 use Rattle.resolve.specs.Functions.{Function, function}
 use Rattle.elim.specs.written_functions.Clauses.{AreLinesOf, Start, parts_of, placed_from, AreValues, IsStarted, Values, part_type}
@@ -48,11 +47,10 @@ use Rattle.clause_reports.specs.elaboration.Walking.{Opened}
 use Rattle.elim.proofs.written_functions.Values.{IsMade, part-typed, values-are, values-last, values_in}
 use Rattle.elim.proofs.written_functions.PlanMade.{HasEntries, plan-has}
 use Rattle.drafts.specs.draft_checks.Checks.{unmarked}
-use Rattle.elim.proofs.plan_laws.Answering.{if-ok}
-use Rattle.elim.specs.plan_laws.Conditions.{HasLevel}
+use Rattle.function_session.specs.plan_laws.Conditions.{HasLevel}
 use Rattle.resolve.specs.Scoping.{IsResolvedFunction}
 use Rattle.function_plans.proofs.Orders.{in-is}
-use Rattle.elim.proofs.written_functions.PlanFacts.{HasFacts, made-unmarked, plan-facts}
+use Rattle.elim.proofs.written_functions.PlanFacts.{HasFacts, plan-facts}
 
 -- ---- the function
 
@@ -219,21 +217,6 @@ function-told S f fuel ready resolved marks =
 
 -- ---- the declaration
 
--- the lines that are made are those that are meant, where they are made, and the signature then has no marks in names
-made-has : (P : Elaborated → Type 0) (S : Signature) (x : Word) (fuel : ℕ) (f : Function)
-    → (unmarked S ≡ true → IfOk (function_of S f fuel).0 (λ l. P (with_lines (accepted_as x.text l.signature) l.lines)))
-    → IfOk (on_lines x fuel (function_made S f fuel).0) P
-made-has P S x fuel f h = by (function_made S f fuel) refl
-  where
-    Q : Lines → Type 0
-    Q l = P (with_lines (accepted_as x.text l.signature) l.lines)
-
-    by : (r : Elaborating Lines) → function_made S f fuel ≡ r → IfOk (on_lines x fuel r.0) P
-    by (Ok l, left) is =
-        let marks = if-ok (λ (l : Lines). unmarked S ≡ true) (function_made S f fuel).0 l (ap (λ (m : Elaborating Lines). m.0) is) (made-unmarked S f fuel) in
-        transport (λ (m : Elaborating Lines). IfOk m.0 Q) (function-answers S f fuel l left is) (h marks)
-    by (Err e, left) is = tt
-
 -- the facts of the lines, with the function that was resolved
 record IsLined (S : Signature) (fuel : ℕ) (x : Word) (ty : surf.Surf) (clauses : surf.Clauses) (a : Elaborated) : Type 0 where
   given : Function
@@ -247,10 +230,12 @@ lined : (S : Signature) (fuel : ℕ) (x : Word) (ty : surf.Surf) (cs : surf.Clau
 lined S fuel x ty cs ready =
     let P = IsLined S fuel x ty cs in
     on_function-has P (function S x ty cs) (enter_function S fuel x) (λ f is.
-    made-has P S x fuel f (λ marks.
-    weaker (IsTold S f fuel) (λ (l : Lines). P (with_lines (accepted_as x.text l.signature) l.lines)) (function_of S f fuel).0
+    let Q : Lines → Type 0 = λ l. P (with_lines (accepted_as x.text l.signature) l.lines) in
+    on_lines-has P x fuel (function_in S f fuel).0
+    (opened-has Q S f fuel (λ marks.
+    weaker (IsTold S f fuel) Q (function_of S f fuel).0
     (λ l h. record { given = f; resolved = is; lines = l; is = refl; told = h })
-    (function-told S f fuel ready (function-scoped S (surf.Fun x ty cs) f is) marks)))
+    (function-told S f fuel ready (function-scoped S (surf.Fun x ty cs) f is) marks))))
 
 written : (S : Signature) (fuel : ℕ) (x : Word) (ty : surf.Surf) (cs : surf.Clauses) (a : Elaborated) → IsReady S → IsWrittenFunction S fuel x ty cs a
     → IsLined S fuel x ty cs a → IsByPlannedClauses S fuel x ty cs a

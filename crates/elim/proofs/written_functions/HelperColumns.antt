@@ -19,7 +19,7 @@ use Rattle.unification.proofs.Levels.{place-there}
 use Rattle.with_abstraction.specs.Abstractions.{Abstracted}
 use Rattle.with_abstraction.specs.Laws.{IsScopedAbstraction}
 use Rattle.with_abstraction.proofs.PutBack.{fill-place}
-use Rattle.elim.proofs.plan_laws.PlannedClauses.{arguments-long}
+use Rattle.function_session.proofs.plan_laws.PlannedClauses.{arguments-long}
 
 -- ---- places in a list
 

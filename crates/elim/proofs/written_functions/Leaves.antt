@@ -39,8 +39,8 @@ use Rattle.clause_reports.specs.Equations.{Equation, all_shown, in_signature, le
 use Rattle.clause_reports.specs.Reports.{order_in, shown_leaf}
 use Rattle.clause_reports.specs.Shadows.{TreeLeaf, equation_at_leaf, leaves_below, leaves_in_branch, leaves_of}
 use Rattle.clause_reports.specs.elaboration.Walking.{Opened, Walked}
-use Rattle.elim.proofs.written_functions.equation_laws.LeftShowing.{IsAt, equation-is}
-use Rattle.elim.proofs.written_functions.equation_laws.ShownTerms.{all-fit, all-written}
+use Rattle.function_session.proofs.equation_laws.LeftShowing.{IsAt, equation-is}
+use Rattle.function_session.proofs.equation_laws.ShownTerms.{all-fit, all-written}
 use Rattle.function_checks.proofs.function_clauses.Fitting.{clauses-for}
 use Rattle.resolve.specs.Functions.{Function}
 use Rattle.resolve.specs.Scoping.{count}

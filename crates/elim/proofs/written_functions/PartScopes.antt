@@ -45,7 +45,7 @@ use Rattle.with_abstraction.specs.Abstractions.{Abstracted, abstract_over_of, ab
 use Rattle.with_abstraction.specs.Laws.{IsScopedAbstraction}
 use Rattle.with_abstraction.specs.NormalForms.{normal_forms_of}
 use Rattle.function_session.proofs.Written.{granted-has}
-use Rattle.elim.proofs.plan_laws.OpenedScopes.{low-has}
+use Rattle.function_session.proofs.plan_laws.OpenedScopes.{low-has}
 use Rattle.elim.proofs.written_functions.Abstractions.{AreFormsOf, IsAbstractionOf, abstraction-is, forms-are}
 
 -- ---- helpers that are opened

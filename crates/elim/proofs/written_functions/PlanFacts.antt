@@ -1,11 +1,11 @@
 -- The facts about a plan on which its entries rest: it is a plan, and the generated names that it uses become definitions.
-use Rattle.std.proofs.Common.{◌≡◌, ℕ, ◌+◌, ◌<◌, ◌≤◌, Bool, true, false, cond, Some, List, [], Ok, refl, arith}
+use Rattle.std.proofs.Common.{◌≡◌, ℕ, ◌+◌, ◌<◌, ◌≤◌, true, Some, List, Ok, arith}
 use Rattle.theory.specs.Signatures.{FamilyOf, IsEntryAt, IsPrefix, Signature}
 use Rattle.theory.specs.Terms.{top}
 use Rattle.theory.specs.WellFormed.{IsWellFormed, provisional}
 use Rattle.theory.proofs.Pushing.{prefix_reflexive, prefix_transitive}
 use Rattle.theory.proofs.Widening.{prefix_keeps}
-use Rattle.core_terms.proofs.Answers.{Answers, and_next-has}
+use Rattle.core_terms.proofs.Answers.{Answers}
 use Rattle.core_sig.specs.Drafts.{Draft}
 use Rattle.family_check.specs.Entering.{Entered}
 use Rattle.family_check.proofs.PreludeEntries.{identity-there}
@@ -17,10 +17,10 @@ use Rattle.tree_translation.specs.Conditions.{IsPlanned}
 use Rattle.tree_translation.specs.Naming.{below_name, rec_name}
 use Rattle.tree_translation.specs.Plans.{Plan}
 use Rattle.tree_translation.specs.Recursion.{Recursion, recursion_of}
-use Rattle.clause_reports.proofs.Keeping.{Any, Grows, any, enter_mention-grows, enter_needed-grows, weaker, weaker-of-two}
+use Rattle.clause_reports.proofs.Keeping.{Grows, enter_mention-grows, enter_needed-grows, weaker, weaker-of-two}
 use Rattle.clause_reports.specs.DraftEntering.{Mention, Names, enter_draft_of, enter_mention, enter_needed}
 use Rattle.clause_reports.specs.Generated.{all_name}
-use Rattle.clause_reports.specs.elaboration.Functions.{Lines, plan_of}
+use Rattle.clause_reports.specs.elaboration.Functions.{plan_of}
 use Rattle.drafts.specs.draft_checks.Checks.{unmarked}
 use Rattle.drafts.specs.draft_entering.Conditions as entering
 use Rattle.drafts.specs.draft_entering.Conditions.{Extends, IsGeneratedName, IsOpen}
@@ -29,16 +29,15 @@ use Rattle.drafts.proofs.draft_entering.Longer.{extends-prefix, open-longer}
 use Rattle.drafts.proofs.entering_laws.EnteredOpen.{enter_mention-extends, enter_needed-extends, entered-open}
 use Rattle.drafts.proofs.entering_laws.OpenSignatures.{well_formed-settled}
 use Rattle.drafts.specs.entering_laws.Laws.{StaysOpen}
-use Rattle.elim.proofs.plan_laws.Answering.{if-ok, next-has}
-use Rattle.elim.proofs.plan_laws.EnteredNames.{can-recur, can-value, mention-defines}
-use Rattle.elim.proofs.plan_laws.FamilyLevels.{level-low}
-use Rattle.elim.proofs.plan_laws.NamedEntries.{defined-there}
-use Rattle.elim.proofs.plan_laws.PlanLevels.{position-low}
-use Rattle.elim.proofs.plan_laws.Planned.{plan-of_function, plan-planned}
-use Rattle.elim.specs.plan_laws.Conditions.{HasLevel, IsFunctionFor}
-use Rattle.elim.specs.plan_laws.Laws.{IsPlanOf}
+use Rattle.function_session.proofs.plan_laws.Answering.{if-ok}
+use Rattle.function_session.proofs.plan_laws.EnteredNames.{can-recur, can-value, mention-defines}
+use Rattle.function_session.proofs.plan_laws.FamilyLevels.{level-low}
+use Rattle.function_session.proofs.plan_laws.NamedEntries.{defined-there}
+use Rattle.function_session.proofs.plan_laws.PlanLevels.{position-low}
+use Rattle.function_session.proofs.plan_laws.Planned.{plan-of_function, plan-planned}
+use Rattle.function_session.specs.plan_laws.Conditions.{HasLevel, IsFunctionFor}
+use Rattle.function_session.specs.plan_laws.Laws.{IsPlanOf}
 use Rattle.function_session.specs.function_lines.Conditions.{IsFunctionOver}
-use Rattle.function_session.specs.function_lines.FunctionMade.{deep, function_made, level_of, parts_reported, plan_entered, plan_over, translated}
 use Rattle.elim.proofs.written_functions.HelpersEnter.{Enters, IsKept}
 use Rattle.elim.proofs.written_functions.PartEntries.{HasName}
 use Rattle.elim.proofs.written_functions.PlanMade.{NamesEnter}
@@ -112,19 +111,6 @@ module _ (S : Signature) (f : Function) (level : ℕ) (plan : Plan) (has : HasLe
       }
 
 -- ---- the plan of a function
-
--- where the code answers for a function, no family's and no constructor's name holds a `!`
-pub made-unmarked : (S : Signature) (f : Function) (fuel : ℕ) → Answers (λ (l : Lines). unmarked S ≡ true) (function_made S f fuel)
-made-unmarked S f fuel =
-    let Q : Lines → Type 0 = λ l. unmarked S ≡ true in
-    next-has Q (level_of S f.type fuel) _ (λ level rest e1.
-    next-has Q (plan_over S f level rest) _ (λ plan more e2.
-    and_next-has (λ T. unmarked S ≡ true) Q (plan_entered S plan more) _ (tested plan more (unmarked S) refl) (λ T end h.
-    weaker Any Q (parts_reported plan 0 plan.parts [] T end).0 (λ l u. h) (any (parts_reported plan 0 plan.parts [] T end).0))))
-  where
-    tested : (plan : Plan) (more : ℕ) (b : Bool) → unmarked S ≡ b → Answers (λ (T : Signature). unmarked S ≡ true) (cond b (translated S plan more) (deep more))
-    tested plan more true is = weaker Any (λ T. unmarked S ≡ true) (translated S plan more).0 (λ T u. is) (any (translated S plan more).0)
-    tested plan more false is = tt
 
 pub plan-facts : (S : Signature) (f : Function) (level left : ℕ) (plan : Plan) → IsReady S → IsFunctionOver (provisional S f.name f.type) f
     → IsResolvedFunction S (provisional S f.name f.type) f → unmarked S ≡ true → HasLevel S f level → (plan_of S f level left).0 ≡ Ok plan → HasFacts S plan

@@ -30,10 +30,10 @@ use Rattle.case_trees.specs.Laws.{IsGiven}
 use Rattle.case_trees.specs.Scoped.{AreClausesFor}
 use Rattle.function_session.proofs.function_lines.SamePlans.{walked_of}
 use Rattle.function_session.specs.function_lines.Conditions.{IsFunctionOver}
-use Rattle.function_session.specs.function_lines.FunctionMade.{session_at}
+use Rattle.function_session.specs.function_lines.Opened.{session_at}
 use Rattle.resolve.specs.Functions.{Function}
 use Rattle.elim.specs.written_functions.Clauses.{parts_of}
-use Rattle.elim.proofs.plan_laws.GivenClauses.{AreAt}
+use Rattle.function_session.proofs.plan_laws.GivenClauses.{AreAt}
 use Rattle.elim.proofs.written_functions.Walked.{ArePartsGiven, Gives, clauses-gives, clauses_of, ends-ok, is-ok}
 
 -- ---- parts that are finished

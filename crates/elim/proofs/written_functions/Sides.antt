@@ -23,7 +23,7 @@ use Rattle.tree_translation.specs.RightSides.{is_helper}
 use Rattle.clause_reports.specs.Equations.{Equation, Site, all_shown, equation_of, in_signature, last_argument, left_side, number_of, own_number, part_at, part_name, pats_of, right_side, shown, shown_built, side_of, values_of_recursion, walk_site, closed_type}
 use Rattle.clause_reports.specs.Generated.{all_name}
 use Rattle.clause_reports.specs.Reports.{Reference}
-use Rattle.elim.proofs.written_functions.equation_laws.LeftShowing.{IsAt, equation-is}
+use Rattle.function_session.proofs.equation_laws.LeftShowing.{IsAt, equation-is}
 use Rattle.elim.proofs.written_functions.Numbers.{AreUnder, applied-under, inst-under, number-under, products-under, renumbered-under, spine-under}
 
 -- ---- the terms that patterns show

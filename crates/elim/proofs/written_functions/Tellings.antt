@@ -25,7 +25,7 @@ use Rattle.clause_reports.specs.Stops.{ReportStop}
 use Rattle.clause_reports.proofs.LineLaws.{absurd-line}
 use Rattle.clause_reports.specs.elaboration.Functions.{ClauseLine, Following, Lines, report_parts, report_walks, with_line}
 use Rattle.clause_reports.specs.elaboration.Refusals.{Owner, or_no_report, owner_of, reporting}
-use Rattle.elim.proofs.written_functions.equation_laws.ShownTerms.{FamiliesStay, all-fit}
+use Rattle.function_session.proofs.equation_laws.ShownTerms.{FamiliesStay, all-fit}
 use Rattle.family_check.specs.Scopes.{HasPrelude}
 use Rattle.resolve.specs.Functions.{Function}
 use Rattle.elim.specs.written_functions.Clauses as written

@@ -23,7 +23,7 @@ use Rattle.clause_reports.specs.elaboration.Functions.{first_domains}
 use Rattle.clause_reports.specs.elaboration.Walking.{Opened}
 use Rattle.function_checks.proofs.function_clauses.OwnParts.{domains-scoped}
 use Rattle.resolve.specs.Functions.{Function}
-use Rattle.elim.proofs.written_functions.equation_laws.SameRecursion.{recursion-same}
+use Rattle.function_session.proofs.equation_laws.SameRecursion.{recursion-same}
 use Rattle.elim.specs.written_functions.Clauses as written
 use Rattle.elim.specs.written_functions.Clauses.{AreValues, Values, part_type, parts_of}
 use Rattle.elim.proofs.written_functions.Equations.{AreLast, placed_at}

@@ -19,7 +19,7 @@ use Rattle.clause_reports.proofs.Keeping.{any}
 use Rattle.clause_reports.specs.elaboration.Refusals.{OfSide, Owner, answers, granted, or_ends, or_halts, owner_of, walking}
 use Rattle.clause_reports.specs.elaboration.Walking.{Given, Opened, Opening, Walked, helper_arguments, joined, open_over, opened, walk_clause, walk_clauses, walk_right}
 use Rattle.function_checks.proofs.function_clauses.HelperParts.{helper-columns}
-use Rattle.function_session.specs.function_lines.FunctionMade.{session_at}
+use Rattle.function_session.specs.function_lines.Opened.{session_at}
 use Rattle.function_session.specs.Laws.{inner, inner_of, inner_right}
 use Rattle.function_session.proofs.OwnEntry.{halts-is}
 use Rattle.function_session.proofs.Planned.{after_dots-has}
@@ -29,7 +29,7 @@ use Rattle.resolve.specs.Functions.{Function}
 use Rattle.resolve.specs.Scoping.{AreClauses, IsClause}
 use Rattle.tree_translation.proofs.Drafting.{bounded-ok}
 use Rattle.case_trees.specs.Laws.{IsGiven}
-use Rattle.elim.proofs.plan_laws.GivenClauses.{AreAt, at-parts}
+use Rattle.function_session.proofs.plan_laws.GivenClauses.{AreAt, at-parts}
 use Rattle.elim.proofs.written_functions.PartScopes.{IsFit, IsScopedOver, IsWalkable, helper-opens, walk-fits}
 
 -- ---- answers

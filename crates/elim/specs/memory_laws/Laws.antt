@@ -20,7 +20,7 @@ use Rattle.elab_session.specs.Declaring.{declare_of}
 use Rattle.elab_session.specs.Entering.{enter_of}
 use Rattle.elab_session.specs.declared.refusal.Refusal.TheVariants.{Memory}
 use Rattle.clause_reports.specs.elaboration.Functions.{function_of}
-use Rattle.function_session.specs.function_lines.FunctionMade.{function_made}
+use Rattle.function_session.specs.function_lines.Opened.{function_in}
 use Rattle.function_session.specs.Declaring.{declared_in}
 use Rattle.function_session.specs.Elaborating.{elaborate_of}
 use Rattle.function_session.specs.Sessions.{Session}
@@ -90,7 +90,7 @@ ReadEntryNeedsNoMemory =
 -- ---- functions and declarations, whatever the signature is
 
 abbrev pub FunctionForeseen : Type 0
-FunctionForeseen = (S : Signature) (f : Function) (fuel : ℕ) → IfErr (function_made S f fuel).0 IsForeseenFunction
+FunctionForeseen = (S : Signature) (f : Function) (fuel : ℕ) → IfErr (function_in S f fuel).0 IsForeseenFunction
 
 -- a function as it is meant is refused for such a reason alone
 abbrev pub MeantForeseen : Type 0

@@ -38,7 +38,7 @@ use Rattle.clause_reports.specs.elaboration.Functions.{failing_call, own_part}
 use Rattle.clause_reports.specs.elaboration.Refusals as refusal
 use Rattle.clause_reports.specs.elaboration.Refusals.{FailingCall, Part, Refusal, ill_typed, level_too_high, of_tree, owner_of}
 use Rattle.clause_reports.specs.elaboration.Walking.{Given, Opened, greatest_level, walk_clauses}
-use Rattle.function_session.specs.function_lines.FunctionMade.{session_at}
+use Rattle.function_session.specs.function_lines.Opened.{session_at}
 use Rattle.resolve.specs.Functions.{Function}
 use Rattle.elim.specs.refusal_laws.Parts.{IsPartOf, IsTreeStart}
 use Rattle.elim.specs.written_functions.Clauses.{with_own, parts_of}

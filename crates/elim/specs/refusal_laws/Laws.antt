@@ -10,7 +10,7 @@ use Rattle.clause_reports.specs.elaboration.Functions.{function_of}
 use Rattle.clause_reports.specs.elaboration.Refusals as refusal
 use Rattle.clause_reports.specs.elaboration.Refusals.{FailingCall, Owner, Part, Refusal}
 use Rattle.function_session.specs.function_lines.Conditions.{IsFunctionOver}
-use Rattle.function_session.specs.function_lines.FunctionMade.{function_made}
+use Rattle.function_session.specs.function_lines.Opened.{function_in}
 use Rattle.function_session.specs.Declaring.{declared_in}
 use Rattle.function_session.specs.Elaborating.{elaborate_of}
 use Rattle.function_session.specs.Sessions.{Session}
@@ -22,15 +22,15 @@ use Rattle.surface_syntax.specs.declared.tree.Word.{Word}
 use Rattle.elim.specs.refusal_laws.Causes.{AreFailing, Caused, IsDenied, IsEnd, IsIllTyped, IsMismatch, IsUncovered}
 use Rattle.elim.specs.written_functions.Clauses.{with_own}
 
--- a property of each refusal of a resolved function, as the code elaborates it
+-- a property of each refusal of a resolved function
 abbrev pub OfRefusals : (Signature → Function → Refusal → Type 0) → Type 0
 OfRefusals Holds =
-    (S : Signature) (f : Function) (fuel : ℕ) (e : Refusal) → IsFunctionOver (with_own S f) f → (function_made S f fuel).0 ≡ Err e → Holds S f e
+    (S : Signature) (f : Function) (fuel : ℕ) (e : Refusal) → IsFunctionOver (with_own S f) f → (function_in S f fuel).0 ≡ Err e → Holds S f e
 
 abbrev pub RefusalIsCaused : Type 0
 RefusalIsCaused = OfRefusals Caused
 
--- Each refusal that is meant has its cause too.
+-- Each refusal that is meant where no name of a family or of a constructor holds a `!` has its cause too.
 abbrev pub MeantIsCaused : Type 0
 MeantIsCaused =
     (S : Signature) (f : Function) (fuel : ℕ) (e : Refusal) → IsFunctionOver (with_own S f) f → (function_of S f fuel).0 ≡ Err e →

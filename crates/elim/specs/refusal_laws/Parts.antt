@@ -14,7 +14,7 @@ use Rattle.tree_translation.specs.Naming.{part_named}
 use Rattle.clause_reports.specs.elaboration.Functions.{own_part, recursion_in}
 use Rattle.clause_reports.specs.elaboration.Refusals.{owner_of}
 use Rattle.clause_reports.specs.elaboration.Walking.{Opened, Opening, open_over, opened}
-use Rattle.function_session.specs.function_lines.FunctionMade.{session_at}
+use Rattle.function_session.specs.function_lines.Opened.{session_at}
 use Rattle.resolve.specs.Functions.{Function}
 use Rattle.elim.specs.written_functions.Clauses.{with_own}
 

@@ -23,7 +23,7 @@ use Rattle.clause_reports.specs.elaboration.Functions.{ClauseLine, after_domains
 use Rattle.function_session.specs.Laws.{inner, inner_right}
 use Rattle.resolve.specs.Functions.{Function}
 use Rattle.with_abstraction.specs.Laws.{types_at_terms}
-use Rattle.elim.specs.written_functions.Fitting.{AllFit, IsTaken}
+use Rattle.function_session.specs.equation_laws.Fitting.{AllFit, IsTaken}
 
 -- the signature over which a function's clauses are read: the function is a provisional constant after the entries of S
 abbrev pub with_own : Signature → Function → Signature

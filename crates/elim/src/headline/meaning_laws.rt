@@ -2,7 +2,7 @@
 ghost use Rattle.elim.specs.headline.meaning_laws.Complete.{EachIsAnswered, RunsAgree, WholeIsMeant};
 ghost use Rattle.elim.specs.headline.meaning_laws.Laws.{CompiledIsMeant, LinesAreMeant, RunIsMeant, WorkIsMeant};
 
-use crate::function_laws::declaration_laws::text_is_meant;
+use function_session::function_laws::declaration_laws::text_is_meant;
 
 /// The lines that are defined for the declarations of a source file are those that are meant.
 pub fn lines_are_meant()

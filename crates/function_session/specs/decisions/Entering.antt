@@ -1,11 +1,12 @@
 -- How the entry of a decision enters.
-use Rattle.std.specs.Prelude.{ℕ, ◌-◌, Option, Some, None, List, length, Result, Ok, Err}
+use Rattle.std.specs.Prelude.{◌≡◌, ℕ, ◌-◌, Option, Some, None, List, length, Result, Ok, Err}
 use Rattle.theory.specs.Families.{Family}
 use Rattle.theory.specs.Signatures.{Signature}
 use Rattle.core_terms.specs.declared.stop.Stop.{Stop}
 use Rattle.core_terms.specs.declared.stop.Stop.TheVariants.{Deep}
 use Rattle.core_sig.specs.Drafts.{Draft}
 use Rattle.kernel_reduce.specs.Entries.{family_at}
+use Rattle.drafts.specs.draft_entering.Conditions.{IsEnterableDraft}
 use Rattle.decide_eq.specs.DecisionEntries.{decision_entry}
 use Rattle.decide_eq.specs.PlainFamilies.{Known}
 use Rattle.clause_reports.specs.elaboration.Refusals as function
@@ -14,7 +15,7 @@ use Rattle.elab_session.specs.declared.refusal.Refusal.{Refusal}
 use Rattle.function_session.specs.Refusals.{refused_function}
 use Rattle.function_session.specs.declared.decisions.decision.Decision.{Decision}
 use Rattle.function_session.specs.declared.decisions.naming.Named.{Named}
-use Rattle.function_session.specs.function_lines.FunctionMade.{checked_entered, draft_opened}
+use Rattle.function_session.specs.function_lines.Opened.{checked_entered, draft_in}
 
 -- the entry that decides the equality of a family
 abbrev pub draft_of_family : Signature → Named → Known → Option Family → Result Draft Stop
@@ -24,6 +25,10 @@ draft_of_family S d known None = Err Deep
 abbrev pub draft_for : Signature → Named → Known → Result Draft Stop
 draft_for S d known = draft_of_family S d known (family_at S d.family)
 
+-- whatever entry is made of the family may enter
+abbrev pub MayEnter : Signature → Named → Known → Type 0
+MayEnter S d known = (draft : Draft) → draft_for S d known ≡ Ok draft → IsEnterableDraft S draft
+
 abbrev pub or_refused : (fuel : ℕ) → Result Signature function.Refusal → Result Signature Refusal
 or_refused fuel (Ok T) = Ok T
 or_refused fuel (Err e) = Err (refused_function fuel e)
@@ -32,11 +37,10 @@ or_refused fuel (Err e) = Err (refused_function fuel e)
 abbrev pub Entering : Type 0
 Entering = Signature → (fuel : ℕ) → (name : List ℕ) → Draft → Result Signature Refusal
 
--- how a draft enters in code: Deep is the answer where drafts may not enter the signature, or the draft may not
 abbrev pub draft_entered : Entering
-draft_entered S fuel name d = or_refused fuel (draft_opened S name d fuel).0
+draft_entered S fuel name d = or_refused fuel (draft_in S name d fuel).0
 
--- how it is meant to
+-- how it enters where no name of a family or of a constructor holds a `!`
 abbrev pub draft_meant : Entering
 draft_meant S fuel name d = or_refused fuel (checked_entered S name d fuel).0
 

@@ -6,7 +6,10 @@ use Rattle.core_sig.specs.Names.{find}
 use Rattle.elab_session.specs.Sessions as session
 use Rattle.resolve.specs.Functions.{Function}
 use Rattle.resolve.specs.Scoping.{IsResolvedFunction}
+use Rattle.tree_translation.specs.Plans.{Plan}
 use Rattle.unification.specs.ScopedStates.{IsReady}
+use Rattle.function_session.specs.function_laws.report_laws.plan_drafts.Laws.{IsPlanFor}
+use Rattle.function_session.specs.plan_laws.Conditions.{HasLevel}
 
 -- The conditions of the phases of a function: the signature is one that a session may have, and the function is new there and resolved,
 -- with itself as a provisional constant in its clauses.
@@ -21,3 +24,12 @@ pub record IsFunctionOver (T : Signature) (f : Function) : Type 0 where
   pub prefix : IsPrefix before T
   pub ready : IsReady T
   pub resolved : IsResolvedFunction before T f
+
+-- The plan is that of the function over the signature, at the level of the function's type.
+pub record IsPlanWith (S : Signature) (f : Function) (plan : Plan) : Type 0 where
+  pub plan_for : IsPlanFor S f plan
+  pub level : HasLevel S f plan_for.level
+
+-- there is such a function
+abbrev pub IsOfFunction : Signature → Plan → Type 0
+IsOfFunction S plan = (f : Function) × IsPlanWith S f plan

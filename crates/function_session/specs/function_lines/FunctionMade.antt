@@ -1,13 +1,11 @@
 -- A function by clauses as the code elaborates it: the answer is Deep also where a family's or constructor's name holds a `!`, where a
 -- draft may not enter the signature, and where a term on the way is too high.
-use Rattle.std.specs.Prelude.{ℕ, ◌+◌, cond, Option, Some, None, List, [], ◌∷◌, ◌++◌, length, Result, Ok, Err}
+use Rattle.std.specs.Prelude.{ℕ, ◌+◌, cond, Option, Some, None, List, [], ◌∷◌, ◌++◌, Result, Ok}
 use Rattle.theory.specs.Terms.{Term}
 use Rattle.theory.specs.Signatures.{Signature}
-use Rattle.theory.specs.WellFormed.{provisional}
 use Rattle.core_terms.specs.Answers.{and_next, and_then}
 use Rattle.core_terms.specs.CaseTrees.{Walk}
 use Rattle.core_terms.specs.declared.stop.Stop.{Stop}
-use Rattle.core_terms.specs.declared.stop.Stop.TheVariants.{Deep}
 use Rattle.core_sig.specs.Drafts.{Draft}
 use Rattle.kernel_check.specs.Checking.{infer_sort_of}
 use Rattle.kernel_reduce.specs.Reduction.{nesting}
@@ -16,16 +14,17 @@ use Rattle.tree_translation.specs.Plans.{Plan, Part}
 use Rattle.tree_translation.specs.Recursion.{Recursion}
 use Rattle.leaf_terms.specs.RecursionMade.{made_at}
 use Rattle.function_entries.specs.CodeEntries.{translate_made}
-use Rattle.clause_reports.specs.DraftEntering.{Names, enter_draft_of, enter_mention, enter_needed}
+use Rattle.clause_reports.specs.DraftEntering.{Names, enter_mention, enter_needed}
 use Rattle.tree_translation.specs.Naming.{part_named}
 use Rattle.clause_reports.specs.Generated.{all_name}
 use Rattle.clause_reports.specs.Reports.{Line, Reference, Reported}
 use Rattle.clause_lines.specs.CodeReports.{report_made}
 use Rattle.drafts.specs.draft_checks.Checks.{enterable, unmarked}
-use Rattle.clause_reports.specs.elaboration.Functions.{ClauseLine, Lines, first_domains, function_level, own_part}
-use Rattle.clause_reports.specs.elaboration.Refusals.{Elaborating, Halts, OfType, answers, granted, or_halts, owner_of, reporting}
+use Rattle.clause_reports.specs.elaboration.Functions.{ClauseLine, Lines, first_domains, function_level, own_part, plan_of}
+use Rattle.clause_reports.specs.elaboration.Refusals.{Elaborating, OfType, answers, granted, or_halts, owner_of, reporting}
 use Rattle.clause_reports.specs.elaboration.Walking.{Given, Opened, Session, walk_clauses}
 use Rattle.function_plans.specs.CodePlans.{plan_made}
+use Rattle.function_session.specs.function_lines.Opened.{checked_entered, deep, plan_in, session_at}
 
 -- ---- the type
 
@@ -35,10 +34,6 @@ level_of S type left =
     and_next (granted S OfType (infer_sort_of S nesting [] type left)) (λ sort rest. answers (function_level S sort) rest)
 
 -- ---- the plan
-
--- the function as a provisional constant after the entries of S
-abbrev pub session_at : Signature → Function → Session
-session_at S f = record { signature = provisional S f.name f.type; name = f.name; own = length S.entries }
 
 -- once the clauses are walked
 abbrev pub plan_given : Session → Function → Opened → Given → ℕ → Elaborating Plan
@@ -54,20 +49,9 @@ plan_over S f level left = plan_from (session_at S f) f (own_part f level) left
 
 -- ---- entries
 
-abbrev pub deep : {A : Type 0} → ℕ → Elaborating A
-deep left = answers (Err (Halts Deep)) left
-
--- a draft of the function with this name
-abbrev pub checked_entered : Signature → (name : List ℕ) → Draft → ℕ → Elaborating Signature
-checked_entered S name d left = and_next (reporting S (owner_of name 0) (enter_draft_of S d left)) (λ e rest. answers (Ok e.signature) rest)
-
 -- a draft of the function with this name, or Deep where it may not enter
 abbrev pub draft_entered : Signature → (name : List ℕ) → Draft → ℕ → Elaborating Signature
 draft_entered S name d left = cond (enterable S d) (checked_entered S name d left) (deep left)
-
--- the same, or Deep where drafts may not enter the signature
-abbrev pub draft_opened : Signature → (name : List ℕ) → Draft → ℕ → Elaborating Signature
-draft_opened S name d left = cond (unmarked S) (draft_entered S name d left) (deep left)
 
 abbrev pub drafts_entered : Signature → (name : List ℕ) → List Draft → ℕ → Elaborating Signature
 drafts_entered S name [] left = answers (Ok S) left
@@ -138,8 +122,7 @@ parts_reported plan k (part ∷ parts) made S left =
 abbrev pub plan_reported : Plan → Signature → ℕ → Elaborating Lines
 plan_reported plan S left = and_next (plan_entered S plan left) (λ T rest. parts_reported plan 0 plan.parts [] T rest)
 
--- the lines of a function that is accepted, with the signature that has its entries
-abbrev pub function_made : Signature → Function → (fuel : ℕ) → Elaborating Lines
-function_made S f fuel =
-    and_next (level_of S f.type fuel) (λ level rest.
-    and_next (plan_over S f level rest) (λ plan more. plan_reported plan S more))
+-- the function phase by phase, each over what the one before it left
+abbrev pub function_phases : Signature → Function → (fuel : ℕ) → Elaborating Lines
+function_phases S f fuel =
+    and_next (level_of S f.type fuel) (λ level rest. and_next (plan_of S f level rest) (λ plan more. plan_in plan S more))

@@ -1,7 +1,8 @@
-ghost use Rattle.std.specs.Prelude.{◌≡◌, length, IfOk, OnErr, OnOk};
+ghost use Rattle.std.specs.Prelude.{◌≡◌, length, All, IfOk, OnErr, OnOk};
 ghost use Rattle.elab_session.specs.Sessions.{IsReady};
 ghost use Rattle.function_session.specs.decisions.Declaring as spec;
 ghost use Rattle.function_session.specs.decisions.Entering.{draft_entered};
+ghost use Rattle.function_session.specs.decisions.Laws.{IsHeld};
 ghost use Rattle.function_session.specs.Meanings.{Answers};
 
 use crate::Accepted;
@@ -27,6 +28,7 @@ fn declare_named(
     named: Named,
 ) -> Result<Accepted, Refusal>
     requires ready { IsReady sig.old }
+    requires held { All (IsHeld sig.old) decisions.old.items }
     ensures answer { Answers sig.new result (spec.declare_named draft_entered sig.old decisions.old.items fuel family.now into.now named) }
     ensures err { OnErr result (sig.new ≡ sig.old) }
     ensures forgotten { OnErr result (decisions.new.items ≡ decisions.old.items) }
@@ -61,6 +63,7 @@ pub(crate) fn declare_decision(
     into: &Word,
 ) -> Result<Accepted, Refusal>
     requires ready { IsReady sig.old }
+    requires held { All (IsHeld sig.old) decisions.old.items }
     ensures answer { Answers sig.new result (spec.declare_decision draft_entered sig.old decisions.old.items fuel x.now family.now into.now) }
     ensures err { OnErr result (sig.new ≡ sig.old) }
     ensures forgotten { OnErr result (decisions.new.items ≡ decisions.old.items) }

@@ -1,10 +1,13 @@
-ghost use Rattle.std.specs.Prelude.{◌≡◌, ◌++◌, [], ◌∷◌, Ok, OnOk, OnErr};
+ghost use Rattle.std.specs.Prelude.{◌≡◌, ◌++◌, [], ◌∷◌, All, Ok, OnOk, OnErr};
 ghost use Rattle.core_sig.specs.Drafts.{draft_of};
 ghost use Rattle.core_terms.specs.Answers.{GivesUnless};
 ghost use Rattle.decide_eq.specs.PlainFamilies.{plain_family};
 ghost use Rattle.elab_session.specs.Refusals.{IsUnforeseen};
 ghost use Rattle.elab_session.specs.Sessions.{IsReady};
+ghost use Rattle.drafts.specs.draft_entering.Conditions.{IsEnterableDraft};
 ghost use Rattle.function_session.specs.decisions.Entering as spec;
+ghost use Rattle.function_session.specs.decisions.Known.{known_into};
+ghost use Rattle.function_session.specs.decisions.Laws.{IsHeld};
 
 use crate::decisions::Decision;
 use crate::decisions::naming::Named;
@@ -24,7 +27,8 @@ fn enter_draft(
     draft: &Draft,
     named: &Named,
 ) -> Result<(), Refusal>
-    requires { IsReady sig.old }
+    requires ready { IsReady sig.old }
+    requires draft { IsEnterableDraft sig.old (draft_of draft.now) }
     ensures answer { GivesUnless IsUnforeseen (λ _. sig.new) result (spec.draft_entered sig.old fuel named.now.name (draft_of draft.now)) }
     ensures err { OnErr result (sig.new ≡ sig.old) }
 {
@@ -53,6 +57,7 @@ fn enter(
 ) -> Result<(), Refusal>
     requires ready { IsReady sig.old }
     requires plain { plain_family sig.old named.now.family named.now.into known.now ≡ Ok tt }
+    requires enterable { spec.MayEnter sig.old named.now known.now }
     ensures answer { GivesUnless IsUnforeseen (λ _. sig.new) result (spec.decision_entered spec.draft_entered sig.old fuel named.now known.now) }
     ensures err { OnErr result (sig.new ≡ sig.old) }
 {
@@ -74,6 +79,8 @@ pub(crate) fn keep(
 ) -> Result<(), Refusal>
     requires ready { IsReady sig.old }
     requires plain { plain_family sig.old named.now.family named.now.into known.now ≡ Ok tt }
+    requires known { known.now ≡ known_into named.now.into decisions.old.items }
+    requires held { All (IsHeld sig.old) decisions.old.items }
     ensures answer { GivesUnless IsUnforeseen (λ _. sig.new) result (spec.decision_entered spec.draft_entered sig.old fuel named.now known.now) }
     ensures err { OnErr result (sig.new ≡ sig.old) }
     ensures forgotten { OnErr result (decisions.new.items ≡ decisions.old.items) }

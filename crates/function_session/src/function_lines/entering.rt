@@ -4,6 +4,7 @@ ghost use Rattle.drafts.specs.draft_checks.Checks.{unmarked};
 ghost use Rattle.drafts.specs.draft_entering.Conditions.{Extends, IsEnterableDraft, IsOpen};
 ghost use Rattle.elab_session.specs.Sessions.{IsReady};
 ghost use Rattle.function_session.specs.function_lines.FunctionMade as spec;
+ghost use Rattle.function_session.specs.function_lines.Opened.{checked_entered, draft_in};
 ghost use Rattle.function_checks.specs.function_refusals.RefusalMeanings.{Elaborates};
 ghost use Rattle.leaf_terms.specs.PlanMeanings.{plan_of};
 
@@ -28,7 +29,7 @@ fn enter_checked(
 ) -> Result<(), FunctionRefusal>
     requires signature { IsOpen sig.old }
     requires draft { IsEnterableDraft sig.old (draft_of draft.now) }
-    ensures answer { Elaborates (λ _. sig.new) result units.new.left (spec.checked_entered sig.old function.now (draft_of draft.now) units.old.left) }
+    ensures answer { Elaborates (λ _. sig.new) result units.new.left (checked_entered sig.old function.now (draft_of draft.now) units.old.left) }
     ensures sum { units.new.left + units.new.spent ≡ units.old.left + units.old.spent }
     ensures spends { units.new.left ≤ units.old.left }
     ensures longer { Extends sig.old sig.new }
@@ -200,8 +201,7 @@ pub(crate) fn enter_plan(
     enter_translated(alloc, sig, plan, units)
 }
 
-/// Adds a draft with this name to a well-formed signature, or Deep where it may not enter, or where a name of a family or of a
-/// constructor holds a `!`.
+/// Adds a draft with this name to a well-formed signature, or Deep where a name of a family or of a constructor holds a `!`.
 pub(crate) fn enter_opened(
     alloc: Global,
     sig: &mut Signature,
@@ -209,8 +209,9 @@ pub(crate) fn enter_opened(
     draft: &Draft,
     units: &mut Units,
 ) -> Result<(), FunctionRefusal>
-    requires { IsReady sig.old }
-    ensures answer { Elaborates (λ _. sig.new) result units.new.left (spec.draft_opened sig.old name.now (draft_of draft.now) units.old.left) }
+    requires ready { IsReady sig.old }
+    requires draft { IsEnterableDraft sig.old (draft_of draft.now) }
+    ensures answer { Elaborates (λ _. sig.new) result units.new.left (draft_in sig.old name.now (draft_of draft.now) units.old.left) }
     ensures sum { units.new.left + units.new.spent ≡ units.old.left + units.old.spent }
     ensures spends { units.new.left ≤ units.old.left }
     ensures longer { Extends sig.old sig.new }
@@ -219,5 +220,5 @@ pub(crate) fn enter_opened(
     if !is_open(sig) {
         return Err(FunctionRefusal::Stop(Stop::Deep));
     }
-    enter(alloc, sig, name, draft, units)
+    enter_checked(alloc, sig, name, draft, units)
 }

@@ -1,14 +1,16 @@
 ghost use Rattle.std.specs.Prelude.{◌≡◌, ◌≤◌, ◌+◌, OnErr};
 ghost use Rattle.drafts.specs.draft_entering.Conditions.{Extends};
 ghost use Rattle.elab_session.specs.Sessions.{IsReady};
-ghost use Rattle.function_session.specs.function_lines.Conditions.{IsWorkingOn};
+ghost use Rattle.function_session.specs.function_lines.Conditions.{IsOfFunction, IsWorkingOn};
 ghost use Rattle.function_session.specs.function_lines.FunctionMade as spec;
 ghost use Rattle.function_session.specs.function_lines.LineMeanings.{lines_of};
+ghost use Rattle.function_session.specs.function_lines.Opened.{function_in, plan_in};
 ghost use Rattle.function_checks.specs.function_refusals.RefusalMeanings.{Elaborates};
 ghost use Rattle.leaf_terms.specs.PlanMeanings.{plan_of};
 ghost use Rattle.resolve.specs.PatternMeanings.{fun_of};
 ghost use Rattle.theory.specs.Signatures.{IsPrefix};
 
+use crate::function_laws::report_laws::plan_is_opened;
 use crate::function_lines::ClauseLine;
 use crate::function_lines::entering::enter_plan;
 use crate::function_lines::levels::level_of;
@@ -21,8 +23,8 @@ use leaf_terms::Plan;
 use resolve::FunCore;
 use std::alloc::Global;
 
-/// Adds the entries of a plan, and answers the lines of its clauses. After an error some entries are there.
-fn report_plan(
+/// Adds the entries of a plan, and answers the lines of its clauses, as the code makes them. After an error some entries are there.
+fn report_by_code(
     alloc: Global,
     sig: &mut Signature,
     plan: &Plan,
@@ -46,6 +48,24 @@ fn report_plan(
     )
 }
 
+/// Adds the entries of a function's plan, and answers the lines of its clauses. After an error some entries are there.
+fn report_plan(
+    alloc: Global,
+    sig: &mut Signature,
+    plan: &Plan,
+    units: &mut Units,
+) -> Result<Items<ClauseLine>, FunctionRefusal>
+    requires ready { IsReady sig.old }
+    requires function { IsOfFunction sig.old (plan_of plan.now) }
+    ensures answer { Elaborates (lines_of sig.new) result units.new.left (plan_in (plan_of plan.now) sig.old units.old.left) }
+    ensures sum { units.new.left + units.new.spent ≡ units.old.left + units.old.spent }
+    ensures spends { units.new.left ≤ units.old.left }
+    ensures longer { Extends sig.old sig.new }
+{
+    plan_is_opened();
+    report_by_code(alloc, sig, plan, units)
+}
+
 /// Adds the entries of a function, and answers the lines of its clauses. After an error some entries are there.
 fn elaborate(
     alloc: Global,
@@ -54,7 +74,7 @@ fn elaborate(
     units: &mut Units,
 ) -> Result<Items<ClauseLine>, FunctionRefusal>
     requires { IsWorkingOn sig.old (fun_of f.now) }
-    ensures answer { Elaborates (lines_of sig.new) result units.new.left (spec.function_made sig.old (fun_of f.now) units.old.left) }
+    ensures answer { Elaborates (lines_of sig.new) result units.new.left (spec.function_phases sig.old (fun_of f.now) units.old.left) }
     ensures sum { units.new.left + units.new.spent ≡ units.old.left + units.old.spent }
     ensures spends { units.new.left ≤ units.old.left }
     ensures longer { Extends sig.old sig.new }
@@ -68,15 +88,15 @@ fn elaborate(
 /// that its equation needs. The answer is the lines of the clauses, those of the function before those of its helpers.
 ///
 /// The units are one count for all of it. After a refusal the signature is as it was, and the units that were spent stay spent.
-/// Deep is also answered where the name of a family or of a constructor holds a `!`.
-pub fn function(
+/// Where the name of a family or of a constructor holds a `!`, a function whose plan is made is Deep.
+pub(crate) fn function(
     alloc: Global,
     sig: &mut Signature,
     f: &FunCore,
     units: &mut Units,
 ) -> Result<Items<ClauseLine>, FunctionRefusal>
     requires { IsWorkingOn sig.old (fun_of f.now) }
-    ensures answer { Elaborates (lines_of sig.new) result units.new.left (spec.function_made sig.old (fun_of f.now) units.old.left) }
+    ensures answer { Elaborates (lines_of sig.new) result units.new.left (function_in sig.old (fun_of f.now) units.old.left) }
     ensures err { OnErr result (sig.new ≡ sig.old) }
     ensures sum { units.new.left + units.new.spent ≡ units.old.left + units.old.spent }
     ensures spends { units.new.left ≤ units.old.left }

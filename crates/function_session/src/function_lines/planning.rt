@@ -101,8 +101,9 @@ fn plan_at(
     plan
 }
 
-/// The plan of a function. The signature has the function as a provisional constant meanwhile, and then is as it was.
-pub(crate) fn plan_over(
+/// The plan of a function, as the code makes it. The signature has the function as a provisional constant meanwhile, and then is as it
+/// was.
+fn plan_by_code(
     alloc: Global,
     sig: &mut Signature,
     f: &FunCore,
@@ -119,4 +120,21 @@ pub(crate) fn plan_over(
     let made = plan_at(alloc, sig, own, f, level, units);
     sig.truncate(own);
     made
+}
+
+/// The plan of a function. The signature is as it was.
+pub(crate) fn plan_over(
+    alloc: Global,
+    sig: &mut Signature,
+    f: &FunCore,
+    level: u8,
+    units: &mut Units,
+) -> Result<Plan, FunctionRefusal>
+    requires { IsWorkingOn sig.old (fun_of f.now) }
+    ensures answer { Elaborates plan_of result units.new.left (functions.plan_of sig.old (fun_of f.now) level units.old.left) }
+    ensures sum { units.new.left + units.new.spent ≡ units.old.left + units.old.spent }
+    ensures spends { units.new.left ≤ units.old.left }
+    ensures kept { sig.new ≡ sig.old }
+{
+    plan_by_code(alloc, sig, f, level, units)
 }

@@ -21,7 +21,7 @@ use Rattle.clause_reports.specs.elaboration.Refusals.{walking}
 use Rattle.clause_reports.specs.elaboration.Walking.{Session, Walked, walk_clauses}
 use Rattle.function_session.proofs.function_lines.SamePlans.{walked_of}
 use Rattle.function_session.specs.function_lines.Conditions.{IsFunctionOver}
-use Rattle.function_session.specs.function_lines.FunctionMade.{session_at}
+use Rattle.function_session.specs.function_lines.Opened.{session_at}
 use Rattle.function_session.specs.Laws.{inner}
 use Rattle.resolve.specs.Functions.{Function}
 use Rattle.elim.specs.refusal_laws.Causes.{Caused}

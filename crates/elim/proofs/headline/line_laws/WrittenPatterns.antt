@@ -3,7 +3,6 @@ use Rattle.std.proofs.Common.{◌≡◌, ℕ, zero, suc, ◌+◌, Option, Some, 
 use Rattle.theory.specs.Signatures.{Signature}
 use Rattle.theory.proofs.Lists.{some_is}
 use Rattle.core_terms.proofs.Answers.{Answers, and_next-has, split-parts}
-use Rattle.core_terms.specs.Clauses as clause
 use Rattle.core_terms.specs.Clauses.{Clauses}
 use Rattle.core_terms.specs.Patterns as pattern
 use Rattle.tree_translation.specs.structural_rec.Choices.{choose}
@@ -18,7 +17,7 @@ use Rattle.clause_reports.specs.elaboration.Refusals.{walking}
 use Rattle.clause_reports.specs.elaboration.Walking.{Session, Walked, walk_clauses}
 use Rattle.function_session.proofs.function_lines.SamePlans.{walked_of}
 use Rattle.function_session.specs.function_lines.Conditions.{IsFunctionOver}
-use Rattle.function_session.specs.function_lines.FunctionMade.{session_at}
+use Rattle.function_session.specs.function_lines.Opened.{session_at}
 use Rattle.function_session.specs.Laws.{inner}
 use Rattle.resolve.specs.Functions.{Function}
 use Rattle.elim.specs.refusal_laws.Causes.{Caused}

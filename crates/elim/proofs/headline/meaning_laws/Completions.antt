@@ -2,7 +2,7 @@
 use Rattle.std.specs.Io.KnownBytes.{Appends}
 use Rattle.std.proofs.Common.{◌≡◌, ℕ, false, List, ◌∷◌, ◌++◌, Result, Ok, Err, refl, sym, ap, ◌∙◌, subst as transport, append_assoc}
 use Rattle.surface_syntax.specs.Trees.{Decl}
-use Rattle.elim.specs.function_laws.declaration_laws.Meant.{declared_meant}
+use Rattle.function_session.specs.Meant.{declared_meant}
 use Rattle.elab_session.specs.declared.refusal.Refusal.{Refusal}
 use Rattle.function_session.specs.Declaring.{new_session, session_after, with_declared}
 use Rattle.function_session.specs.Elaborating.{Elaborated}

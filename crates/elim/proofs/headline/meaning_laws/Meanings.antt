@@ -6,7 +6,7 @@ use Rattle.elab_session.specs.declared.refusal.Refusal.{Refusal}
 use Rattle.function_session.specs.Declaring.{declared_in, new_session, session_after, with_declared}
 use Rattle.function_session.specs.Elaborating.{Elaborated}
 use Rattle.function_session.specs.Sessions.{Session}
-use Rattle.elim.specs.function_laws.declaration_laws.Laws.{AreMeant, TextIsMeant}
+use Rattle.function_session.specs.function_laws.declaration_laws.Laws.{AreMeant, TextIsMeant}
 use Rattle.elim.specs.elim_program.DefinedOutputs.{compiles, works}
 use Rattle.elim.specs.elim_program.Outputs.{Output, compiled, declarations, declared_block, followed, text_block}
 use Rattle.elim.specs.elim_program.Runs.{Follows, nothing, output}

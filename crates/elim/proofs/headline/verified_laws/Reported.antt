@@ -12,7 +12,7 @@ use Rattle.function_session.specs.Elaborating.{Elaborated}
 use Rattle.function_session.specs.Evidence.{references_from}
 use Rattle.function_session.specs.Laws.{IsAsDeclared, IsWrittenFunction}
 use Rattle.function_session.specs.Sessions.{Session}
-use Rattle.elim.proofs.written_functions.equation_laws.LeftShowing.{ok-is}
+use Rattle.function_session.proofs.equation_laws.LeftShowing.{ok-is}
 use Rattle.elim.specs.headline.line_laws.Lines.{AreReported}
 use Rattle.elim.specs.headline.line_laws.Laws.{HasReportedLines}
 use Rattle.elim.proofs.headline.line_laws.Functions.{declaration-reports}

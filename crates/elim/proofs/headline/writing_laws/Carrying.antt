@@ -129,13 +129,13 @@ module _ (D Own : List ℕ → Type 0) (Few : ℕ → Type 0) (P : Signature →
       by true = p
       by false = enter_generated-is enter all S p (generated_by S name) (λ h is. generated-draft-is S p name h is (length S.entries)) left
 
-  enter_all-is : (enter : Entering) → Carries D P enter → (S : Signature) → P S → (mentions : List Mention) (left : ℕ) → Answers P (enter_all enter S mentions left)
+  pub enter_all-is : (enter : Entering) → Carries D P enter → (S : Signature) → P S → (mentions : List Mention) (left : ℕ) → Answers P (enter_all enter S mentions left)
   enter_all-is enter all S p [] left = p
   enter_all-is enter all S p (m ∷ mentions) left =
       and_next-has P P (enter_mention enter S m left) _ (enter_mention-is enter all S p m left) (λ T rest h. enter_all-is enter all T h mentions rest)
 
   -- numbers change no name
-  renumbered-is : (r : ℕ → ℕ) (e : Entry) (S : Signature) (left : ℕ) → P S → EntryIs D e → Answers (After P) (enter_entry S (renumbered_entry r e) left)
+  pub renumbered-is : (r : ℕ → ℕ) (e : Entry) (S : Signature) (left : ℕ) → P S → EntryIs D e → Answers (After P) (enter_entry S (renumbered_entry r e) left)
   renumbered-is r (Definition name type body) S left p h = enter_entry-is S p (renumbered_entry r (Definition name type body)) h left
   renumbered-is r (FamilyOf f) S left p h = tt
   renumbered-is r (EliminatorAt n m) S left p h = tt

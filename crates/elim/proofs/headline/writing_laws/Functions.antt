@@ -1,32 +1,32 @@
 -- A property that definitions and instances keep is kept by a function by clauses that is accepted.
-use Rattle.std.proofs.Common.{◌≡◌, ℕ, ◌+◌, ◌<◌, Bool, true, false, cond, List, [], ◌∷◌, ◌++◌, length, take, drop, Option, Some, None, Result, Ok, Err, IfOk, refl, subst, arith}
-use Rattle.theory.specs.Terms.{Term, Sort}
+use Rattle.std.proofs.Common.{◌≡◌, ℕ, ◌+◌, ◌<◌, List, [], ◌∷◌, ◌++◌, length, take, drop, Option, Some, None, Result, Ok, Err, IfOk, subst, arith}
+use Rattle.theory.specs.Terms.{Sort}
 use Rattle.theory.specs.Telescopes.{products, functions}
 use Rattle.theory.specs.Signatures.{Signature}
+use Rattle.theory.specs.WellFormed.{provisional}
 use Rattle.core_terms.specs.CaseTrees.{Walk}
 use Rattle.core_terms.specs.declared.stop.Stop.{Stop}
-use Rattle.core_terms.specs.declared.stop.Stop.TheVariants.{Deep}
 use Rattle.core_terms.proofs.Answers.{Answers, and_next-has, and_then-has}
 use Rattle.core_sig.specs.Drafts.{Draft}
 use Rattle.resolve.specs.Functions.{Function}
-use Rattle.tree_translation.specs.structural_rec.Uses.{Use}
-use Rattle.tree_translation.specs.Entries.{entries_with, helpers_before, and_more, motive_entry, step_entry, helper_entry, function_entry, side_names, part_term, step_telescope, step_goal, step_node, helper_node, function_by_recursion}
+use Rattle.tree_translation.specs.structural_rec.Choices.{choose}
+use Rattle.tree_translation.specs.Entries.{translate, entries_with, helpers_before, and_more, motive_entry, step_entry, helper_entry, function_entry, side_names, part_term, step_telescope, step_goal, step_node, helper_node, function_by_recursion}
 use Rattle.tree_translation.specs.Naming.{motive_name, step_name, helper_name, rec_name, part_named}
 use Rattle.tree_translation.specs.Plans.{Plan, Part, own_part as plan_part}
 use Rattle.tree_translation.specs.Recursion.{Recursion, recursion_of, order_of, ordered_telescope, ordered_term, first_positions}
 use Rattle.tree_translation.specs.Splits.{Node}
 use Rattle.tree_translation.specs.TreeTerms.{tree_names}
-use Rattle.function_entries.specs.CodeEntries.{translate_made}
-use Rattle.exact_laws.proofs.translation_laws.MadeEntries.{translate_made-is_entries}
+use Rattle.kernel_check.specs.Checking.{infer_sort_of}
+use Rattle.kernel_reduce.specs.Reduction.{nesting}
 use Rattle.clause_reports.specs.DraftEntering.{enter_draft_of, enter_needed, enter_mention, Names}
+use Rattle.clause_reports.specs.Generated.{all_name}
+use Rattle.clause_reports.specs.Reports.{Reference, report_of}
 use Rattle.clause_reports.specs.Stops.{ReportStop}
-use Rattle.drafts.specs.draft_checks.Checks.{enterable, unmarked}
-use Rattle.clause_lines.specs.CodeReports.{report_made}
-use Rattle.clause_reports.specs.elaboration.Functions.{ClauseLine, Lines, own_part}
-use Rattle.clause_reports.specs.elaboration.Refusals.{Owner, Halts, answers, or_halts, owner_of, or_no_report, reporting}
+use Rattle.clause_reports.specs.elaboration.Functions.{Following, Lines, enter_drafts, enter_plan, enter_values, first_domains, function_level, function_of, helpers_finished, own_finished, own_part, plan_of, position_chosen, recursion_in, report_parts, report_walks}
+use Rattle.clause_reports.specs.elaboration.Refusals.{OfType, Owner, answers, granted, or_halts, owner_of, or_no_report, reporting}
 use Rattle.clause_reports.specs.elaboration.Walking.{Session, Walked, walk_clauses}
-use Rattle.function_plans.specs.CodePlans.{chosen_made, parts_made, plan_made}
-use Rattle.function_session.specs.function_lines.FunctionMade.{level_of, session_at, plan_over, checked_entered, draft_entered, drafts_entered, values_name, values_entered, translated, plan_entered, clause_line, reference_of, clause_reported, walks_reported, parts_reported, function_made}
+use Rattle.function_session.specs.function_lines.Opened.{checked_entered, function_in}
+use Rattle.function_session.proofs.Keeping.{opened-has}
 use Rattle.elim.proofs.headline.writing_laws.Carrying.{skip, DraftIs, After, Keeps, enter_draft-is, enter_needed-is, enter_mention-is}
 use Rattle.elim.proofs.headline.writing_laws.Reporting.{Told, ordered-made, report-is}
 
@@ -46,7 +46,7 @@ abbrev pub PartsAre : (ℕ → Type 0) → Plan → Type 0
 PartsAre Few plan = (k : ℕ) → k < length plan.parts → Few k
 
 abbrev pub FunctionFew : (ℕ → Type 0) → Signature → Function → Type 0
-FunctionFew Few S f = (level left : ℕ) → Answers (PartsAre Few) (plan_over S f level left)
+FunctionFew Few S f = (level left : ℕ) → Answers (PartsAre Few) (plan_of S f level left)
 
 -- those from number k on
 abbrev FewFrom : (ℕ → Type 0) → ℕ → List Part → Type 0
@@ -76,21 +76,23 @@ DraftsAre D (d ∷ drafts) = DraftIs D d × DraftsAre D drafts
 abbrev LinesAre : (Signature → Type 0) → Lines → Type 0
 LinesAre P l = P l.signature
 
+-- what goes on keeps it
+abbrev Follows : (Signature → Type 0) → Following → Type 0
+Follows P next = (S : Signature) (left : ℕ) → P S → Answers (LinesAre P) (next S left)
+
 module _ (D Own : List ℕ → Type 0) (Few : ℕ → Type 0) (P : Signature → Type 0) (keeps : Keeps D Own Few P) where
   -- ---- the plan
 
-  plan_made-is : (s : Session) → Own s.name → (type : Term) (arity level : ℕ) (w : Walked) (helpers : List Walked) (uses : List Use) (left : ℕ)
-      → Answers (PlanIs Own) (plan_made s type arity level w helpers uses left)
-  plan_made-is s h type arity level w helpers uses left =
-      skip (PlanIs Own) (chosen_made s w.part.tele uses, left) _ (λ position more.
-      skip (PlanIs Own) (parts_made s position level w helpers more) _ (λ parts end. h))
-
-  plan-is : (S : Signature) (f : Function) → Own f.name → (level left : ℕ) → Answers (PlanIs Own) (plan_over S f level left)
+  plan-is : (S : Signature) (f : Function) → Own f.name → (level left : ℕ) → Answers (PlanIs Own) (plan_of S f level left)
   plan-is S f h level left =
-      let s = session_at S f in
+      let s : Session = record { signature = provisional S f.name f.type; name = f.name; own = length S.entries } in
       let part = own_part f level in
       skip (PlanIs Own) (walk_clauses s 0 part 0 1 f.clauses left) _ (λ given rest.
-      plan_made-is s h f.type f.arity part.level (record { part = part; clauses = f.clauses; walks = given.walks; sides = given.sides }) given.helpers given.uses rest)
+      let w : Walked = record { part = part; clauses = f.clauses; walks = given.walks; sides = given.sides } in
+      skip (PlanIs Own) (answers (position_chosen s (choose S part.tele s.own given.uses)) rest) _ (λ position more.
+      let r = recursion_in S part.tele position in
+      skip (PlanIs Own) (own_finished s r w more) _ (λ own end.
+      skip (PlanIs Own) (helpers_finished s r level 1 given.helpers end) _ (λ helpers last. h))))
 
   -- ---- entries
 
@@ -153,74 +155,63 @@ module _ (D Own : List ℕ → Type 0) (Few : ℕ → Type 0) (P : Signature →
       (and_more-is (step_entry S plan r) (and_more (function_entry S plan (Some r)) (Ok [])) (step-is S plan own r)
       (and_more-is (function_entry S plan (Some r)) (Ok []) (function-entry-is S plan own (Some r)) tt)))
 
-  drafts-are : (S : Signature) (plan : Plan) → Own plan.name → PartsAre Few plan → (r : Result (List Draft) Stop) → translate_made S plan ≡ r → IfOk r (DraftsAre D)
-  drafts-are S plan own few (Ok drafts) is =
-      subst (λ (x : Result (List Draft) Stop). IfOk x (DraftsAre D)) (translate_made-is_entries S plan drafts is) (entries-are S plan own few (recursion_of S plan))
-  drafts-are S plan own few (Err e) is = tt
-
   pub checked_entered-is : (S : Signature) → P S → (name : List ℕ) (d : Draft) → DraftIs D d → (left : ℕ) → Answers P (checked_entered S name d left)
   checked_entered-is S p name d k left =
       and_next-has (After P) P (reporting S (owner_of name 0) (enter_draft_of S d left)) _
       (reporting-has (After P) S (owner_of name 0) (enter_draft_of S d left).0 (enter_draft-is D Own Few P keeps S d left p k)) (λ e rest i. i)
 
-  draft_entered-is : (S : Signature) → P S → (name : List ℕ) (d : Draft) → DraftIs D d → (left : ℕ) → Answers P (draft_entered S name d left)
-  draft_entered-is S p name d k left = by (enterable S d)
-    where
-      by : (may : Bool) → Answers P (cond may (checked_entered S name d left) (answers (Err (Halts Deep)) left))
-      by true = checked_entered-is S p name d k left
-      by false = tt
+  enter_drafts-are : (S : Signature) → P S → (name : List ℕ) (drafts : List Draft) → DraftsAre D drafts → (left : ℕ) → Answers P (enter_drafts S name drafts left)
+  enter_drafts-are S p name [] all left = p
+  enter_drafts-are S p name (d ∷ drafts) all left =
+      and_next-has (After P) P (reporting S (owner_of name 0) (enter_draft_of S d left)) _
+      (reporting-has (After P) S (owner_of name 0) (enter_draft_of S d left).0 (enter_draft-is D Own Few P keeps S d left p all.0)) (λ e rest k.
+      enter_drafts-are e.signature k name drafts all.1 rest)
 
-  drafts_entered-are : (S : Signature) → P S → (name : List ℕ) (drafts : List Draft) → DraftsAre D drafts → (left : ℕ) → Answers P (drafts_entered S name drafts left)
-  drafts_entered-are S p name [] all left = p
-  drafts_entered-are S p name (d ∷ drafts) all left =
-      and_next-has P P (draft_entered S name d left) _ (draft_entered-is S p name d all.0 left) (λ T rest k. drafts_entered-are T k name drafts all.1 rest)
+  enter_values-is : (S : Signature) → P S → (plan : Plan) (r : Option Recursion) (parts : List Part) (left : ℕ) → Answers P (enter_values S plan r parts left)
+  enter_values-is S p plan None parts left = p
+  enter_values-is S p plan (Some r) [] left = p
+  enter_values-is S p plan (Some r) (own ∷ []) left = p
+  enter_values-is S p plan (Some r) (own ∷ helper ∷ helpers) left =
+      let values = Names (all_name r.family plan.level) in
+      let entered = enter_mention enter_needed S values left in
+      reporting-has P S (owner_of plan.name 0) entered.0 (enter_mention-is D Own Few P keeps enter_needed (enter_needed-is D Own Few P keeps) S p values left)
 
-  values_entered-is : (S : Signature) → P S → (name : List ℕ) (values : Option (List ℕ)) (left : ℕ) → Answers P (values_entered S name values left)
-  values_entered-is S p name None left = p
-  values_entered-is S p name (Some values) left =
-      let entered = enter_mention enter_needed S (Names values) left in
-      reporting-has P S (owner_of name 0) entered.0 (enter_mention-is D Own Few P keeps enter_needed (enter_needed-is D Own Few P keeps) S p (Names values) left)
-
-  plan_entered-is : (S : Signature) → P S → (plan : Plan) → Own plan.name → PartsAre Few plan → (left : ℕ) → Answers P (plan_entered S plan left)
-  plan_entered-is S p plan own few left = by (unmarked S)
-    where
-      entered : Answers P (translated S plan left)
-      entered =
-          and_next-has (DraftsAre D) P (or_halts (translate_made S plan), left) _
-          (halting-has (DraftsAre D) (translate_made S plan) (drafts-are S plan own few (translate_made S plan) refl)) (λ drafts rest all.
-          skip P (or_halts (values_name S plan), rest) _ (λ values more.
-          and_next-has P P (drafts_entered S plan.name drafts more) _ (drafts_entered-are S p plan.name drafts all more) (λ T end k.
-          values_entered-is T k plan.name values end)))
-
-      by : (free : Bool) → Answers P (cond free (translated S plan left) (answers (Err (Halts Deep)) left))
-      by true = entered
-      by false = tt
+  enter_plan-is : (S : Signature) → P S → (plan : Plan) → Own plan.name → PartsAre Few plan → (left : ℕ) → Answers P (enter_plan S plan left)
+  enter_plan-is S p plan own few left =
+      let r = recursion_in S (first_domains plan.arity plan.type) plan.position in
+      and_next-has (DraftsAre D) P (answers (or_halts (translate S plan)) left) _
+      (halting-has (DraftsAre D) (translate S plan) (entries-are S plan own few (recursion_of S plan))) (λ drafts rest all.
+      and_next-has P P (enter_drafts S plan.name drafts rest) _ (enter_drafts-are S p plan.name drafts all rest) (λ T end k.
+      enter_values-is T k plan r plan.parts end))
 
   -- ---- lines
 
-  walks_reported-are : (plan : Plan) → Own plan.name → (k : ℕ) → Few k → (number : ℕ) (walks : List Walk) (made : List ClauseLine) (S : Signature) → P S → (left : ℕ)
-      → Answers (LinesAre P) (walks_reported plan k number walks made S left)
-  unfolding clause_reported
-  walks_reported-are plan own k few number [] made S p left = p
-  walks_reported-are plan own k few number (w ∷ walks) made S p left =
-      let c = reference_of k number w in
-      and_next-has (Told P) (LinesAre P) (clause_reported plan k number w S left) _
-      (reporting-has (Told P) S (owner_of (part_named plan.name k) number) (report_made S plan c left).0 (report-is D Own Few P keeps S p plan c (own, few) left)) (λ r rest i.
-      walks_reported-are plan own k few (number + 1) walks (made ++ clause_line plan k number r.line ∷ []) r.signature i rest)
+  report_walks-are : (plan : Plan) → Own plan.name → (k : ℕ) → Few k → (number : ℕ) (walks : List Walk) (next : Following) → Follows P next
+      → Follows P (report_walks plan k number walks next)
+  report_walks-are plan own k few number [] next h S left p = h S left p
+  report_walks-are plan own k few number (w ∷ walks) next h S left p =
+      let c : Reference = record { part = k; clause = number; walk = w } in
+      and_next-has (Told P) (LinesAre P) (reporting S (owner_of (part_named plan.name k) number) (report_of S plan c left)) _
+      (reporting-has (Told P) S (owner_of (part_named plan.name k) number) (report_of S plan c left).0 (report-is D Own Few P keeps S p plan c (own, few) left)) (λ r rest i.
+      and_next-has (LinesAre P) (LinesAre P) (report_walks plan k (number + 1) walks next r.signature rest) _
+      (report_walks-are plan own k few (number + 1) walks next h r.signature rest i) (λ lines end q. q))
 
-  parts_reported-are : (plan : Plan) → Own plan.name → (k : ℕ) (parts : List Part) → FewFrom Few k parts → (made : List ClauseLine) (S : Signature) → P S → (left : ℕ)
-      → Answers (LinesAre P) (parts_reported plan k parts made S left)
-  parts_reported-are plan own k [] few made S p left = p
-  parts_reported-are plan own k (part ∷ parts) few made S p left =
-      and_next-has (LinesAre P) (LinesAre P) (walks_reported plan k 0 part.walks made S left) _ (walks_reported-are plan own k (few-here Few k part parts few) 0 part.walks made S p left) (λ lines rest i.
-      parts_reported-are plan own (k + 1) parts (few-next Few k part parts few) lines.lines lines.signature i rest)
+  report_parts-are : (plan : Plan) → Own plan.name → (k : ℕ) (parts : List Part) → FewFrom Few k parts → Follows P (report_parts plan k parts)
+  report_parts-are plan own k [] few S left p = p
+  report_parts-are plan own k (part ∷ parts) few S left p =
+      report_walks-are plan own k (few-here Few k part parts few) 0 part.walks (report_parts plan (k + 1) parts)
+      (report_parts-are plan own (k + 1) parts (few-next Few k part parts few)) S left p
 
   -- ---- all of it
 
-  pub function-keeps : (S : Signature) → P S → (f : Function) → Own f.name → FunctionFew Few S f → (fuel : ℕ) → Answers (LinesAre P) (function_made S f fuel)
-  function-keeps S p f h few fuel =
-      skip (LinesAre P) (level_of S f.type fuel) _ (λ level rest.
-      and_next-has (λ plan. PlanIs Own plan × PartsAre Few plan) (LinesAre P) (plan_over S f level rest) _
-      (together (PlanIs Own) (PartsAre Few) (plan_over S f level rest).0 (plan-is S f h level rest) (few level rest)) (λ plan more own.
-      and_next-has P (LinesAre P) (plan_entered S plan more) _ (plan_entered-is S p plan own.0 own.1 more) (λ T end k.
-      parts_reported-are plan own.0 0 plan.parts (few-all Few plan.parts own.1) [] T k end)))
+  meant-keeps : (S : Signature) → P S → (f : Function) → Own f.name → FunctionFew Few S f → (fuel : ℕ) → Answers (LinesAre P) (function_of S f fuel)
+  meant-keeps S p f h few fuel =
+      skip (LinesAre P) (granted S OfType (infer_sort_of S nesting [] f.type fuel)) _ (λ sort rest.
+      skip (LinesAre P) (answers (function_level S sort) rest) _ (λ level more.
+      and_next-has (λ plan. PlanIs Own plan × PartsAre Few plan) (LinesAre P) (plan_of S f level more) _
+      (together (PlanIs Own) (PartsAre Few) (plan_of S f level more).0 (plan-is S f h level more) (few level more)) (λ plan end own.
+      and_next-has P (LinesAre P) (enter_plan S plan end) _ (enter_plan-is S p plan own.0 own.1 end) (λ T last k.
+      report_parts-are plan own.0 0 plan.parts (few-all Few plan.parts own.1) T last k))))
+
+  pub function-keeps : (S : Signature) → P S → (f : Function) → Own f.name → FunctionFew Few S f → (fuel : ℕ) → Answers (LinesAre P) (function_in S f fuel)
+  function-keeps S p f h few fuel = opened-has (LinesAre P) S f fuel (λ marks. meant-keeps S p f h few fuel)

@@ -3,6 +3,7 @@ use Rattle.std.proofs.Common.{◌≡◌, ℕ, suc, ◌+◌, ◌<◌, ◌≤◌, 
 use Rattle.theory.specs.Terms.{Term, Const}
 use Rattle.theory.specs.Telescopes.{Telescope}
 use Rattle.theory.specs.Signatures.{Signature}
+use Rattle.theory.specs.WellFormed.{provisional}
 use Rattle.core_terms.specs.Answers.{bounded}
 use Rattle.core_terms.specs.CaseTrees.{Walk}
 use Rattle.core_terms.specs.Clauses as core
@@ -20,14 +21,12 @@ use Rattle.case_trees.specs.OwnWalks.{own_walk_of}
 use Rattle.case_trees.specs.Points.{under_solution}
 use Rattle.case_trees.specs.Trees.{split_of}
 use Rattle.tree_translation.specs.Naming.{part_named}
-use Rattle.tree_translation.specs.Plans.{Part}
+use Rattle.tree_translation.specs.structural_rec.Choices.{choose}
+use Rattle.tree_translation.specs.Plans.{Part, Plan}
 use Rattle.tree_translation.specs.Recursion.{Recursion}
-use Rattle.clause_reports.specs.elaboration.Functions.{helpers_finished, own_finished, own_part}
+use Rattle.clause_reports.specs.elaboration.Functions.{helpers_finished, own_finished, own_part, plan_of, position_chosen, recursion_in}
 use Rattle.clause_reports.specs.elaboration.Refusals.{Elaborating, OfSide, Owner, answers, granted, or_halts, owner_of, walking}
 use Rattle.clause_reports.specs.elaboration.Walking.{Given, Opened, Session, Walked, after_dots, check_dot, open_over, opened, walk_clause, walk_clauses, walk_right}
-use Rattle.leaf_terms.specs.RecursionMade.{made_at}
-use Rattle.function_plans.specs.CodePlans.{chosen_made, own_alone, parts_made}
-use Rattle.function_session.specs.function_lines.FunctionMade.{plan_over, session_at}
 use Rattle.surface_syntax.specs.word_laws.Numbers.{withs_right as written_right, withs_clause as written_clause, withs as written}
 use Rattle.elim.specs.headline.writing_laws.Writing.{HasFewParts}
 use Rattle.elim.proofs.headline.writing_laws.Carrying.{any, Any, if-ok, skip}
@@ -141,27 +140,21 @@ helpers-many s r level number (w ∷ helpers) left =
     skip Q (walking s.signature (part_named s.name number) (split_of s.signature w.part.tele w.part.goal w.part.terms w.clauses left)) _ (λ t rest.
     and_next-has (Many (length helpers)) Q (helpers_finished s r level (number + 1) helpers rest) _ (helpers-many s r level (number + 1) helpers rest) (λ parts end e. ap (λ n. suc n) e))
 
-parts-many : (s : Session) (position : Option ℕ) (level : ℕ) (w : Walked) (helpers : List Walked) (left : ℕ)
-    → Answers (Many (1 + length helpers)) (parts_made s position level w helpers left)
-parts-many s position level w helpers left =
-    let Q : List Part → Type 0 = Many (1 + length helpers) in
-    skip Q (answers (or_halts (made_at s.signature w.part.tele position)) left) _ (λ r more.
-    and_next-has (Many 1) Q (own_alone s r w more) _ (skip (Many 1) (own_finished s r w more) _ (λ own end. refl)) (λ made end e.
-    and_next-has (Many (length helpers)) Q (helpers_finished s r level 1 helpers end) _ (helpers-many s r level 1 helpers end) (λ parts last f.
-    length-append made parts ∙ ap₂ (λ i j. i + j) e f)))
-
-plan-many : (S : Signature) (f : Function) (level left : ℕ) → Answers (λ plan. length plan.parts ≡ 1 + withs f.clauses) (plan_over S f level left)
+plan-many : (S : Signature) (f : Function) (level left : ℕ) → Answers (λ plan. length plan.parts ≡ 1 + withs f.clauses) (plan_of S f level left)
 plan-many S f level left =
-    let s = session_at S f in
+    let s : Session = record { signature = provisional S f.name f.type; name = f.name; own = length S.entries } in
     let part = own_part f level in
-    and_next-has (Helps (withs f.clauses)) (λ plan. length plan.parts ≡ 1 + withs f.clauses) (walk_clauses s 0 part 0 1 f.clauses left) _ (clauses-help s 0 part 0 1 f.clauses left) (λ given rest e.
+    let Q : Plan → Type 0 = λ plan. length plan.parts ≡ 1 + withs f.clauses in
+    and_next-has (Helps (withs f.clauses)) Q (walk_clauses s 0 part 0 1 f.clauses left) _ (clauses-help s 0 part 0 1 f.clauses left) (λ given rest e.
     let w : Walked = record { part = part; clauses = f.clauses; walks = given.walks; sides = given.sides } in
-    skip (λ plan. length plan.parts ≡ 1 + withs f.clauses) (answers (chosen_made s w.part.tele given.uses) rest) _ (λ position more.
-    and_next-has (Many (1 + length given.helpers)) (λ plan. length plan.parts ≡ 1 + withs f.clauses) (parts_made s position part.level w given.helpers more) _
-    (parts-many s position part.level w given.helpers more) (λ parts end g. g ∙ ap (λ n. 1 + n) e)))
+    skip Q (answers (position_chosen s (choose S part.tele s.own given.uses)) rest) _ (λ position more.
+    let r = recursion_in S part.tele position in
+    skip Q (own_finished s r w more) _ (λ own end.
+    and_next-has (Many (length given.helpers)) Q (helpers_finished s r level 1 given.helpers end) _ (helpers-many s r level 1 given.helpers end) (λ helpers last g.
+    (let step : suc (withs f.clauses) ≡ 1 + withs f.clauses = omega arith in ap (λ n. suc n) (g ∙ e) ∙ step)))))
 
 pub few-parts : (S : Signature) (x : Word) (ty : surf.Surf) (cs : surf.Clauses) → written cs ≤ 1048576 → IfOk (function S x ty cs) (HasFewParts S)
 few-parts S x ty cs few =
     if-ok (λ f. withs f.clauses ≡ written cs) (HasFewParts S) (function S x ty cs) (λ f e level left.
-    if-ok (λ plan. length plan.parts ≡ 1 + withs f.clauses) (λ plan. (k : ℕ) → k < length plan.parts → k < 10000000000) (plan_over S f level left).0
+    if-ok (λ plan. length plan.parts ≡ 1 + withs f.clauses) (λ plan. (k : ℕ) → k < length plan.parts → k < 10000000000) (plan_of S f level left).0
     (λ plan g k lt. omega (arith, few, e, g, lt)) (plan-many S f level left)) (function-withs S x ty cs)

@@ -1,32 +1,28 @@
 -- A property that the entering of a draft keeps is kept by the report of a clause.
-use Rattle.std.proofs.Common.{ℕ, Bool, true, false, cond, List, [], ◌∷◌, ◌++◌, length, map, get_or, Result, Ok, Err, IfOk}
+use Rattle.std.proofs.Common.{ℕ, Bool, true, false, ◌&&◌, cond, Option, Some, None, List, [], ◌++◌, length, map, get_or, Result, Ok, Err, IfOk}
 use Rattle.theory.specs.Terms.{Term}
-use Rattle.theory.specs.Telescopes.{Telescope}
+use Rattle.theory.specs.Telescopes.{Telescope, functions}
 use Rattle.theory.specs.Signatures.{Signature, Definition}
-use Rattle.core_terms.specs.Answers.{and_then, bounded}
+use Rattle.core_terms.specs.Answers.{and_next, and_then, bounded}
 use Rattle.core_terms.specs.declared.stop.Stop.{Stop}
-use Rattle.core_terms.specs.declared.stop.Stop.TheVariants as stop
-use Rattle.core_terms.proofs.Answers.{Answers, and_next-has, and_then-has}
+use Rattle.core_terms.proofs.Answers.{Answers, and_next-has}
 use Rattle.core_sig.specs.Drafts.{Draft, drafted}
-use Rattle.core_sig.specs.Settling.{renumbered}
+use Rattle.core_sig.specs.Settling.{renumbered, renumbered_entry, settled_number}
 use Rattle.family_check.specs.Entering.{Entered}
+use Rattle.kernel_reduce.specs.Comparison.{convertible_of}
+use Rattle.kernel_reduce.specs.Reduction.{nesting}
+use Rattle.case_trees.specs.pattern_vectors.Matching.{matches_all}
 use Rattle.tree_translation.specs.Naming.{Naming, drafted_in_order, mentions, number_among, number_in, once, with_names}
-use Rattle.tree_translation.specs.Plans.{Plan}
-use Rattle.leaf_terms.specs.CodeNumbering.{names_at, numbered, places_of}
-use Rattle.clause_reports.specs.DraftEntering.{enter_draft_of}
-use Rattle.clause_reports.specs.Equations.{Equation, part_name, pats_of, closed_type}
-use Rattle.clause_reports.specs.ProofWalks.{Place, Proof, leaves_in}
-use Rattle.clause_reports.specs.Reports.{Reference, Reported, some_absurd}
+use Rattle.tree_translation.specs.Plans.{Part, Plan}
+use Rattle.clause_reports.specs.DraftEntering.{enter_all, enter_entry, enter_needed, mentioned}
+use Rattle.clause_reports.specs.Equations.{Equation, closed_type, equation_of, part_at, pats_of}
+use Rattle.clause_reports.specs.ProofTerms.{candidate, proof_name, proof_names, proof_term}
+use Rattle.clause_reports.specs.ProofWalks.{Place, Proof, leaves_in, walk_of}
+use Rattle.clause_reports.specs.Reports.{Reference, Reported, at_leaf, at_vector, equation_report, if_shadowed, on_candidate, order_in, report_of, reported, shadowed, some_absurd, unless_converts, with_candidate}
 use Rattle.clause_reports.specs.Reports as reports
-use Rattle.clause_reports.specs.Shadows.{TreeLeaf, vector_of, leaves_of}
-use Rattle.clause_reports.specs.Stops.{Halts, ReportStop, answers, or_halts, halting}
-use Rattle.clause_equations.specs.CodeEquations.{equation_made}
-use Rattle.drafts.specs.draft_checks.Checks.{enterable}
-use Rattle.drafts.specs.draft_entering.Depths.{own_name}
-use Rattle.proof_walks.specs.proof_terms.CodeProofs.{body_made, name_made, table_made}
-use Rattle.proof_walks.specs.Starts.{walk_made}
-use Rattle.clause_lines.specs.CodeReports.{PlannedClause, Judgement, Known, Candidate, in_plan, equation_converts, converts_at_leaves, if_shadowed, both_match, at_matched, at_vector_made, at_place, is_earlier, shadowed_among, shadowed_made, denies, on_entered, entering_made, candidate_of, proof_judged, unless_converts, equation_judged, judged, on_judged, report_made}
-use Rattle.elim.proofs.headline.writing_laws.Carrying.{Any, any, skip, halts-has, DraftIs, After, Keeps, enter_draft-is}
+use Rattle.clause_reports.specs.Shadows.{TreeLeaf, convert_at_all, earlier_leaf, leaves_of, vector_of}
+use Rattle.clause_reports.specs.Stops.{Halts, Rejected, Rejection, ReportStop, Stuck, answers, or_halts, halting}
+use Rattle.elim.proofs.headline.writing_laws.Carrying.{skip, halts-has, DraftIs, After, Keeps, enter_all-is, enter_needed-is, renumbered-is}
 
 -- ---- drafts with a name
 
@@ -46,103 +42,90 @@ ordered-made D name base candidates type term h =
     let places = once [] (mentions base t ++ mentions base u) in
     drafted-made D name base (map (λ i. get_or table i []) places) (renumbered (number_among base places) t) (renumbered (number_among base places) u) h
 
-renumbered-made : (D : List ℕ → Type 0) (name : List ℕ) (base : ℕ) (table : List (List ℕ)) (t u : Term) → D name → IfOk (numbered name base table t u) (DraftIs D)
-renumbered-made D name base table t u h =
-    let places = places_of base t u in
-    drafted-made D name base (names_at table places) (renumbered (number_among base places) t) (renumbered (number_among base places) u) h
-
 -- the signature after a line
 abbrev pub Told : (Signature → Type 0) → Reported → Type 0
 Told P r = P r.signature
 
--- a candidate has a name
-abbrev JudgedIs : (List ℕ → Type 0) → Judgement → Type 0
-JudgedIs D (Known line) = Unit {0}
-JudgedIs D (Candidate proof d) = DraftIs D d
-
 module _ (D Own : List ℕ → Type 0) (Few : ℕ → Type 0) (P : Signature → Type 0) (keeps : Keeps D Own Few P) where
-  candidate-is : (S : Signature) (c : PlannedClause) (e : Equation) (proof : Proof) → Own c.plan.name × Few c.number → IfOk (candidate_of S c e proof) (DraftIs D)
-  candidate-is S c e proof h =
-      let name = name_made (part_name c.plan c.number) c.clause in
-      and_then-has Any (DraftIs D) (table_made S c.part.level proof) _ (any (table_made S c.part.level proof)) (λ table u.
-      and_then-has Any (DraftIs D) (body_made S (number_in (length S.entries) table) c.part.level e proof) _ (any (body_made S (number_in (length S.entries) table) c.part.level e proof)) (λ body v.
-      renumbered-made D name (length S.entries) table (closed_type c.part.level e) body (keeps.proof c.plan.name c.number c.clause h.0 h.1)))
+  candidate-is : (S : Signature) (plan : Plan) (k clause : ℕ) (e : Equation) (proof : Proof) → Own plan.name × Few k → IfOk (candidate S plan k clause e proof) (DraftIs D)
+  candidate-is S plan k clause e proof h =
+      let L = (part_at plan k).level in
+      ordered-made D (proof_name plan k clause) (length S.entries) (proof_names S L proof) (λ number. closed_type L e)
+      (λ number. functions e.context (proof_term S number L proof)) (keeps.proof plan.name k clause h.0 h.1)
 
   -- ---- shadowed clauses
 
-  if_shadowed-is : (S : Signature) → P S → (stop : ReportStop) (earlier : ℕ) (context : Telescope) (vector : List Term) (leaves : List TreeLeaf) (holds : Bool)
-      → IfOk (if_shadowed S stop earlier context vector leaves holds) (Told P)
-  if_shadowed-is S p stop earlier context vector leaves true = p
-  if_shadowed-is S p stop earlier context vector leaves false = tt
+  if_shadowed-is : (S : Signature) → P S → (r : Rejection) (earlier : ℕ) (context : Telescope) (vector : List Term) (leaves : List TreeLeaf) (holds : Bool)
+      → IfOk (if_shadowed S r earlier context vector leaves holds) (Told P)
+  if_shadowed-is S p r earlier context vector leaves true = p
+  if_shadowed-is S p r earlier context vector leaves false = tt
 
-  at_vector-is : (S : Signature) → P S → (c : PlannedClause) (stop : ReportStop) (earlier : ℕ) (context : Telescope) (vector : List Term) (left : ℕ)
-      → Answers (Told P) (at_vector_made S c stop earlier context vector left)
-  at_vector-is S p c stop earlier context vector left = by (both_match S c earlier vector) (leaves_of c.clause c.part.tree)
+  at_vector-is : (S : Signature) → P S → (plan : Plan) (c : Reference) (r : Rejection) (earlier : ℕ) (context : Telescope) (vector : List Term) (left : ℕ)
+      → Answers (Told P) (at_vector S plan c r earlier context vector left)
+  at_vector-is S p plan c r earlier context vector left =
+      by (matches_all S (pats_of part c.clause) vector && matches_all S (pats_of part earlier) vector) (leaves_of c.clause part.tree)
     where
-      by : (match : Bool) (leaves : List TreeLeaf) → Answers (Told P) (cond match (at_matched S c stop earlier context vector leaves left) (answers (Err stop) left))
-      by true leaves = skip (Told P) (converts_at_leaves S c leaves left) _ (λ holds rest. if_shadowed-is S p stop earlier context vector leaves holds)
+      part : Part
+      part = part_at plan c.part
+
+      by : (match : Bool) (leaves : List TreeLeaf)
+          → Answers (Told P)
+          (cond match
+          (and_next (convert_at_all S plan c.part c.clause (order_in S plan c.part) c.walk leaves left) (λ holds rest.
+          answers (if_shadowed S r earlier context vector leaves holds) rest))
+          (answers (Err (Rejected r)) left))
+      by true leaves =
+          skip (Told P) (convert_at_all S plan c.part c.clause (order_in S plan c.part) c.walk leaves left) _ (λ holds rest.
+          if_shadowed-is S p r earlier context vector leaves holds)
       by false leaves = tt
 
-  at_place-is : (S : Signature) → P S → (c : PlannedClause) (stop : ReportStop) (earlier : ℕ) (place : Place) (left : ℕ) → Answers (Told P) (at_place S c stop earlier place left)
-  at_place-is S p c stop earlier place left =
-      skip (Told P) (halting (vector_of S (pats_of c.part c.clause) (pats_of c.part earlier) place.terms left)) _ (λ v rest. at_vector-is S p c stop earlier place.context v rest)
+  at_leaf-is : (S : Signature) → P S → (plan : Plan) (c : Reference) (r : Rejection) (found : Option (ℕ × Place)) (left : ℕ)
+      → Answers (Told P) (at_leaf S plan c r found left)
+  at_leaf-is S p plan c r None left = tt
+  at_leaf-is S p plan c r (Some leaf) left =
+      let part = part_at plan c.part in
+      skip (Told P) (halting (vector_of S (pats_of part c.clause) (pats_of part leaf.0) leaf.1.terms left)) _ (λ vector rest.
+      at_vector-is S p plan c r leaf.0 leaf.1.context vector rest)
 
-  shadowed-is : (S : Signature) → P S → (c : PlannedClause) (stop : ReportStop) (leaves : List (ℕ × Place)) (left : ℕ) → Answers (Told P) (shadowed_among S c stop leaves left)
-  shadowed-is S p c stop [] left = tt
-  shadowed-is S p c stop (leaf ∷ leaves) left =
-      skip (Told P) (is_earlier S c.clause leaf left) _ (λ found rest. by found rest (at_place-is S p c stop leaf.0 leaf.1 rest) (shadowed-is S p c stop leaves rest))
-    where
-      by : (found : Bool) (rest : ℕ) → Answers (Told P) (at_place S c stop leaf.0 leaf.1 rest) → Answers (Told P) (shadowed_among S c stop leaves rest)
-          → Answers (Told P) (cond found (at_place S c stop leaf.0 leaf.1 rest) (shadowed_among S c stop leaves rest))
-      by true rest h k = h
-      by false rest h k = k
+  shadowed-is : (S : Signature) → P S → (plan : Plan) (c : Reference) (proof : Proof) (r : Rejection) (left : ℕ)
+      → Answers (Told P) (shadowed S plan c proof r left)
+  shadowed-is S p plan c proof r left =
+      skip (Told P) (earlier_leaf S c.clause (leaves_in proof) left) _ (λ found rest. at_leaf-is S p plan c r found rest)
 
   -- ---- reports
 
-  on_entered-is : (S : Signature) → P S → (c : PlannedClause) (proof : Proof) (name : List ℕ) (answer : Result Entered ReportStop) (left : ℕ)
-      → IfOk answer (After P) → Answers (Told P) (on_entered S c proof name answer left)
-  on_entered-is S p c proof name (Ok e) left h = h
-  on_entered-is S p c proof name (Err stop) left h = by (denies name stop)
+  on_candidate-is : (S : Signature) → P S → (plan : Plan) (c : Reference) (proof : Proof) (answer : Result Entered ReportStop) (left : ℕ)
+      → IfOk answer (After P) → Answers (Told P) (on_candidate S plan c proof answer left)
+  on_candidate-is S p plan c proof (Ok e) left h = h
+  on_candidate-is S p plan c proof (Err (Rejected r)) left h = shadowed-is S p plan c proof r left
+  on_candidate-is S p plan c proof (Err (Halts e)) left h = tt
+  on_candidate-is S p plan c proof (Err (Stuck context u v why)) left h = tt
+
+  with_candidate-is : (S : Signature) → P S → (plan : Plan) (c : Reference) (proof : Proof) (d : Draft) → DraftIs D d → (left : ℕ)
+      → Answers (Told P) (with_candidate S plan c proof d left)
+  with_candidate-is S p plan c proof d h left =
+      and_next-has P (Told P) (enter_all enter_needed S (mentioned d) left) _
+      (enter_all-is D Own Few P keeps enter_needed (enter_needed-is D Own Few P keeps) S p (mentioned d) left) (λ T rest k.
+      let entered = enter_entry T (renumbered_entry (settled_number T d.base d.names) d.entry) rest in
+      on_candidate-is S p plan c proof entered.0 entered.1 (renumbered-is D Own Few P keeps (settled_number T d.base d.names) d.entry T rest k h))
+
+  unless_converts-is : (S : Signature) → P S → (plan : Plan) (c : Reference) → Own plan.name × Few c.part → (e : Equation) (holds : Bool) (left : ℕ)
+      → Answers (Told P) (unless_converts S plan c e holds left)
+  unless_converts-is S p plan c own e true left = p
+  unless_converts-is S p plan c own e false left =
+      skip (Told P) (walk_of S plan c.part c.walk e (part_at plan c.part).tree left) _ (λ proof rest.
+      and_next-has (DraftIs D) (Told P) (answers (or_halts (candidate S plan c.part c.clause e proof)) rest) _
+      (halts-has (DraftIs D) (candidate S plan c.part c.clause e proof) (candidate-is S plan c.part c.clause e proof own))
+      (λ d end h. with_candidate-is S p plan c proof d h end))
+
+  equation-is : (S : Signature) → P S → (plan : Plan) (c : Reference) → Own plan.name × Few c.part → (left : ℕ) → Answers (Told P) (equation_report S plan c left)
+  equation-is S p plan c own left =
+      skip (Told P) (answers (or_halts (equation_of S plan c.part c.clause c.walk)) left) _ (λ e rest.
+      skip (Told P) (halting (convertible_of S nesting e.left e.right rest)) _ (λ holds end. unless_converts-is S p plan c own e holds end))
+
+  pub report-is : (S : Signature) → P S → (plan : Plan) (c : Reference) → Own plan.name × Few c.part → (left : ℕ) → Answers (Told P) (report_of S plan c left)
+  report-is S p plan c own left = by (some_absurd (pats_of (part_at plan c.part) c.clause))
     where
-      by : (own : Bool) → Answers (Told P) (cond own (shadowed_made S c proof stop left) (answers (Err stop) left))
-      by true = shadowed-is S p c stop (leaves_in proof) left
-      by false = tt
-
-  entering-is : (S : Signature) → P S → (c : PlannedClause) (proof : Proof) (d : Draft) → DraftIs D d → (left : ℕ) → Answers (Told P) (entering_made S c proof d left)
-  unfolding entering_made
-  entering-is S p c proof d h left =
-      let entered = enter_draft_of S d left in on_entered-is S p c proof (own_name d) entered.0 entered.1 (enter_draft-is D Own Few P keeps S d left p h)
-
-  on_judged-is : (S : Signature) → P S → (c : PlannedClause) (j : Judgement) → JudgedIs D j → (left : ℕ) → Answers (Told P) (on_judged S c j left)
-  on_judged-is S p c (Known line) h left = p
-  on_judged-is S p c (Candidate proof d) h left = entering-is S p c proof d h left
-
-  proof_judged-is : (S : Signature) (c : PlannedClause) → Own c.plan.name × Few c.number → (e : Equation) (proof : Proof) → IfOk (proof_judged S c e proof) (JudgedIs D)
-  proof_judged-is S c own e proof =
-      and_then-has (DraftIs D) (JudgedIs D) (or_halts (candidate_of S c e proof)) _ (halts-has (DraftIs D) (candidate_of S c e proof) (candidate-is S c e proof own)) (λ d h. by d h (enterable S d))
-    where
-      by : (d : Draft) → DraftIs D d → (there : Bool) → IfOk {E = ReportStop} (cond there (Ok (Candidate proof d)) (Err (Halts stop.Deep))) (JudgedIs D)
-      by d h true = h
-      by d h false = tt
-
-  unless_converts-is : (S : Signature) (c : PlannedClause) → Own c.plan.name × Few c.number → (e : Equation) (holds : Bool) (left : ℕ) → Answers (JudgedIs D) (unless_converts S c e holds left)
-  unless_converts-is S c own e true left = tt
-  unless_converts-is S c own e false left =
-      skip (JudgedIs D) (walk_made S c.plan c.number c.walk e c.part.tree left) _ (λ proof rest. proof_judged-is S c own e proof)
-
-  equation-is : (S : Signature) (c : PlannedClause) → Own c.plan.name × Few c.number → (left : ℕ) → Answers (JudgedIs D) (equation_judged S c left)
-  equation-is S c own left =
-      skip (JudgedIs D) (or_halts (equation_made S c.plan c.number c.clause c.walk), left) _ (λ e rest.
-      skip (JudgedIs D) (equation_converts S e rest) _ (λ holds end. unless_converts-is S c own e holds end))
-
-  judged-is : (S : Signature) (c : PlannedClause) → Own c.plan.name × Few c.number → (left : ℕ) → Answers (JudgedIs D) (judged S c left)
-  judged-is S c own left = by (some_absurd (pats_of c.part c.clause))
-    where
-      by : (there : Bool) → Answers (JudgedIs D) (cond there (answers (Ok (Known reports.Absurd)) left) (equation_judged S c left))
-      by true = tt
-      by false = equation-is S c own left
-
-  pub report-is : (S : Signature) → P S → (plan : Plan) (c : Reference) → Own plan.name × Few c.part → (left : ℕ) → Answers (Told P) (report_made S plan c left)
-  report-is S p plan c own left =
-      let planned = in_plan plan c in
-      and_next-has (JudgedIs D) (Told P) (judged S planned left) _ (judged-is S planned own left) (λ j rest h. on_judged-is S p planned j h rest)
+      by : (there : Bool) → Answers (Told P) (cond there (answers (Ok (reported S reports.Absurd)) left) (equation_report S plan c left))
+      by true = p
+      by false = equation-is S p plan c own left

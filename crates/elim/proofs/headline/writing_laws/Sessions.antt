@@ -24,7 +24,7 @@ use Rattle.resolve.specs.declared.stop.ResolveStop.TheVariants as unresolved
 use Rattle.family_check.specs.Entering as entering
 use Rattle.clause_reports.specs.elaboration.Functions.{Lines}
 use Rattle.clause_reports.specs.elaboration.Refusals as refusal
-use Rattle.function_session.specs.function_lines.FunctionMade.{function_made}
+use Rattle.function_session.specs.function_lines.Opened.{checked_entered, function_in}
 use Rattle.elab_session.specs.Declaring as session
 use Rattle.elab_session.specs.Declaring.{Declared}
 use Rattle.elab_session.specs.Entering.{checked}
@@ -35,7 +35,6 @@ use Rattle.function_session.specs.Elaborating.{without_lines, on_lines, on_funct
 use Rattle.function_session.specs.Sessions.{Session}
 use Rattle.function_session.specs.decisions.Known.{known_into}
 use Rattle.function_session.specs.declared.decisions.decision.Decision.{Decision}
-use Rattle.function_session.specs.function_lines.FunctionMade.{checked_entered}
 use Rattle.function_session.proofs.DeclaredDecisions.{IsDecided, decision-has}
 use Rattle.surface_syntax.specs.word_laws.Words.{Each}
 use Rattle.elim.proofs.elim_program.DecisionNames.{Named}
@@ -142,7 +141,7 @@ module _ (D W : List ℕ → Type 0) (Few : ℕ → Type 0) (most : ℕ) (P : Si
 
   function-entered : (S : Signature) → P S → (x : Word) (fuel : ℕ) (r : Result function.Function ResolveStop) → IfOk r (λ f. W f.name) → IfOk r (FunctionFew Few S)
       → IfOk (on_function r (enter_function S fuel x)) (λ a. P a.signature)
-  function-entered S p x fuel (Ok f) h few = lines-are x fuel (function_made S f fuel).0 (function-keeps D W Few P all.keeps S p f h few fuel)
+  function-entered S p x fuel (Ok f) h few = lines-are x fuel (function_in S f fuel).0 (function-keeps D W Few P all.keeps S p f h few fuel)
   function-entered S p x fuel (Err e) h few = tt
 
   decided-is : (S : Signature) → P S → (decisions : List Decision) (fuel : ℕ) (x family into : Word) → W x.text → (given : Named) (T : Signature)

@@ -8,7 +8,7 @@ use Rattle.resolve.specs.Functions.{Function, function}
 use Rattle.resolve.specs.declared.stop.ResolveStop.{ResolveStop}
 use Rattle.tree_translation.specs.Plans.{Plan}
 use Rattle.clause_reports.specs.elaboration.Refusals.{Refusal}
-use Rattle.function_session.specs.function_lines.FunctionMade.{plan_over}
+use Rattle.clause_reports.specs.elaboration.Functions.{plan_of}
 use Rattle.elab_session.specs.declared.refusal.Refusal as session
 use Rattle.function_session.specs.Elaborating.{Elaborated}
 use Rattle.surface_syntax.specs.word_laws.Words.{Each}
@@ -39,7 +39,7 @@ any-names [] = tt
 any-names (c ∷ cons) = (tt, any-names cons)
 
 any-parts : (S : Signature) (r : Result Function ResolveStop) → IfOk r (FunctionFew Any S)
-any-parts S (Ok f) = λ level left. always (plan_over S f level left).0
+any-parts S (Ok f) = λ level left. always (plan_of S f level left).0
   where
     always : (r : Result Plan Refusal) → IfOk r (PartsAre Any)
     always (Ok plan) = λ k lt. tt

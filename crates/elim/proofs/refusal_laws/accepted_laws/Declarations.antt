@@ -16,7 +16,7 @@ use Rattle.elab_session.specs.Declaring.{Declared, declare_of, resolve_definitio
 use Rattle.elab_session.specs.Entering.{checked}
 use Rattle.elab_session.proofs.Resolved.{declare-has, or_unresolved-has}
 use Rattle.function_session.specs.Elaborating.{Elaborated, elaborate_function}
-use Rattle.function_session.specs.function_lines.FunctionMade.{checked_entered}
+use Rattle.function_session.specs.function_lines.Opened.{checked_entered}
 use Rattle.function_session.proofs.Keeping.{without_lines-has, function-has}
 use Rattle.function_session.proofs.DeclaredDecisions.{decision-has}
 use Rattle.elim.specs.refusal_laws.accepted_laws.Checked.{Checked}

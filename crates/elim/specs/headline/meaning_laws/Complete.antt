@@ -2,7 +2,7 @@
 use Rattle.std.specs.Prelude.{◌≡◌, ℕ, List, [], ◌∷◌, ◌++◌, Option, Some, None, Ok, Err, IfSome}
 use Rattle.std.specs.Io.KnownBytes.{Appends}
 use Rattle.surface_syntax.specs.Trees.{Decl}
-use Rattle.elim.specs.function_laws.declaration_laws.Meant.{declared_meant}
+use Rattle.function_session.specs.Meant.{declared_meant}
 use Rattle.elab_session.specs.declared.refusal.Refusal.{Refusal}
 use Rattle.function_session.specs.Declaring.{new_session, with_declared}
 use Rattle.function_session.specs.Elaborating.{Elaborated}

@@ -1,8 +1,7 @@
--- The outputs of `compile` and `work` as they are meant: a function by clauses is worked on as `elaboration` defines it, not as the code
--- does.
+-- The outputs of `compile` and `work` as they are meant: each declaration is accepted or refused as its phases are defined.
 use Rattle.std.specs.Prelude.{ℕ, true, false, List, [], ◌∷◌, Option, Result, Ok, Err}
 use Rattle.surface_syntax.specs.Trees.{Decl}
-use Rattle.elim.specs.function_laws.declaration_laws.Meant.{declared_meant}
+use Rattle.function_session.specs.Meant.{declared_meant}
 use Rattle.function_session.specs.Declaring.{new_session, session_after, with_declared}
 use Rattle.function_session.specs.Sessions.{Session}
 use Rattle.elim.specs.elim_program.Outputs.{Block, Output, block, compiled, declared_block, followed}

@@ -7,7 +7,7 @@ use Rattle.surface_syntax.specs.Tokens.{Spells}
 use Rattle.surface_syntax.specs.Trees as surf
 use Rattle.surface_syntax.specs.declared.token.TokenKind.TheVariants.{Plain}
 use Rattle.resolve.specs.Functions.{Function, function}
-use Rattle.function_session.specs.function_lines.FunctionMade.{plan_over}
+use Rattle.clause_reports.specs.elaboration.Functions.{plan_of}
 use Rattle.function_session.specs.Declaring.{declared_in, new_session}
 use Rattle.function_session.specs.Elaborating.{Elaborated}
 use Rattle.function_session.specs.Sessions.{Session}
@@ -40,7 +40,7 @@ IsSurfaceName name = (is_utf8 name ≡ true) × Spells Plain (chars name) true
 
 -- the function has fewer parts (itself and its helpers) than there are names for them
 abbrev pub HasFewParts : Signature → Function → Type 0
-HasFewParts S f = (level left : ℕ) → IfOk (plan_over S f level left).0 (λ plan. (k : ℕ) → k < length plan.parts → k < 10000000000)
+HasFewParts S f = (level left : ℕ) → IfOk (plan_of S f level left).0 (λ plan. (k : ℕ) → k < length plan.parts → k < 10000000000)
 
 -- Each name that is declared is a plain one of a source file, and there are few parameters and parts.
 abbrev pub IsOrdinary : Signature → surf.Decl → Type 0

@@ -1,6 +1,12 @@
-use Rattle.drafts.proofs.draft_entering.Longer.{extends-on}
+use Rattle.std.proofs.Common.{subst as transport}
+use Rattle.function_checks.specs.function_refusals.RefusalMeanings.{Elaborates}
+use Rattle.leaf_terms.specs.PlanMeanings.{plan_of}
+use Rattle.function_session.specs.function_lines.LineMeanings.{lines_of}
 use Rattle.function_session.proofs.function_lines.functions.report_plan.Goals as goal
 
-pub returns-clause-longer : goal.returns-clause-longer
-returns-clause-longer c =
-    extends-on c.args.sig.now c.enter_plan.new.sig c.report_parts.new.sig c.in_ok-enter_plan.ensures.longer c.report_parts.ensures.longer
+pub returns-clause-answer : goal.returns-clause-answer
+returns-clause-answer c =
+    let ready = c.requires.ready in
+    transport (Elaborates (lines_of c.report_by_code.new.sig) c.report_by_code.result c.report_by_code.new.units.left)
+    (c.plan_is_opened.ensures c.args.sig.now (plan_of c.args.plan.now) c.args.units.now.left c.requires.function ready.well_formed ready.prelude)
+    c.report_by_code.ensures.answer

@@ -5,7 +5,14 @@ use Rattle.core_text.specs.RawEntries.{entry_shown}
 use Rattle.elab_session.specs.Adding.{IsAdded}
 use Rattle.elab_session.specs.Entering.{Enters, enter_of}
 use Rattle.function_session.specs.Sessions.{Session}
+use Rattle.function_session.proofs.HeldDecisions.{all-held-on}
 use Rattle.function_session.proofs.session.Session.enter.Goals as goal
+
+pub invariant_of-self : goal.invariant_of-self
+invariant_of-self c = (
+  c.enter_entry.ensures.ready,
+  all-held-on c.self.inside.sig c.enter_entry.new.sig c.self.inside.decisions.items c.enter_entry.ensures.longer c.self.invariant.1,
+)
 
 pub returns-clause-answer : goal.returns-clause-answer
 returns-clause-answer c =

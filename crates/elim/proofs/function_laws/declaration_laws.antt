@@ -1,8 +1,0 @@
-pub mod Declarations
-pub mod EnteringDrafts
-pub mod ExtendedReports
-pub mod ExtendedFunctions
-pub mod UnmarkedEntries
-pub mod UnmarkedFamilies
-pub mod UnmarkedDeclarations
-pub mod Texts

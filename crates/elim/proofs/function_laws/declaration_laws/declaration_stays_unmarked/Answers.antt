@@ -1,5 +1,0 @@
-use Rattle.elim.proofs.function_laws.declaration_laws.UnmarkedDeclarations.{declaration-stays}
-use Rattle.elim.proofs.function_laws.declaration_laws.declaration_stays_unmarked.Goals as goal
-
-pub returns : goal.returns
-returns c = declaration-stays

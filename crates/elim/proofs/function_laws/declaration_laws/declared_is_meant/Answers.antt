@@ -1,5 +1,0 @@
-use Rattle.elim.proofs.function_laws.declaration_laws.Declarations.{declared-meant}
-use Rattle.elim.proofs.function_laws.declaration_laws.declared_is_meant.Goals as goal
-
-pub returns : goal.returns
-returns c = declared-meant c.declaration_is_meant.ensures

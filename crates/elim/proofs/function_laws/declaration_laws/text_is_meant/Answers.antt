@@ -1,5 +1,0 @@
-use Rattle.elim.proofs.function_laws.declaration_laws.Texts.{text-meant}
-use Rattle.elim.proofs.function_laws.declaration_laws.text_is_meant.Goals as goal
-
-pub returns : goal.returns
-returns c = text-meant c.declared_is_meant.ensures

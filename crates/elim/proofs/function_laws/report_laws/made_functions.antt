@@ -1,4 +1,0 @@
-pub mod EnteredPlans
-pub mod EnteringFunctions
-pub mod MadeFunctions
-pub mod ReportedParts

@@ -1,5 +1,0 @@
-use Rattle.elim.proofs.function_laws.report_laws.MadeReports.{report-is_made}
-use Rattle.elim.proofs.function_laws.report_laws.report_is_made.Goals as goal
-
-pub returns : goal.returns
-returns c = report-is_made

@@ -1,5 +1,0 @@
-use Rattle.elim.proofs.plan_laws.SameReduction.{not-read}
-use Rattle.elim.proofs.plan_laws.function_is_not_read.Goals as goal
-
-pub returns : goal.returns
-returns c = not-read

@@ -1,5 +1,0 @@
-use Rattle.elim.proofs.plan_laws.Planned.{plan-planned}
-use Rattle.elim.proofs.plan_laws.plan_is_planned.Goals as goal
-
-pub returns : goal.returns
-returns c = plan-planned

@@ -1,5 +1,0 @@
-use Rattle.elim.proofs.plan_laws.SameAbstractions.{same-abstractions}
-use Rattle.elim.proofs.plan_laws.same_abstractions.Goals as goal
-
-pub returns : goal.returns
-returns c = same-abstractions

@@ -1,5 +1,0 @@
-use Rattle.elim.proofs.plan_laws.SameTrees.{same-trees}
-use Rattle.elim.proofs.plan_laws.same_trees.Goals as goal
-
-pub returns : goal.returns
-returns c = same-trees

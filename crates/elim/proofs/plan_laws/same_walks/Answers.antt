@@ -1,5 +1,0 @@
-use Rattle.elim.proofs.plan_laws.SameWalks.{same-walks}
-use Rattle.elim.proofs.plan_laws.same_walks.Goals as goal
-
-pub returns : goal.returns
-returns c = same-walks

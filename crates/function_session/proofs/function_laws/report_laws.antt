@@ -1,0 +1,13 @@
+pub mod WalkedProofs
+pub mod MadeProofs
+pub mod ProofNames
+pub mod ProofScopes
+pub mod Candidates
+pub mod EnteredReports
+pub mod ShadowedReports
+pub mod MadeReports
+pub mod OwnWalks
+pub mod LeafSites
+pub mod EnteredParts
+pub mod FunctionReports
+pub mod OpenedPlans

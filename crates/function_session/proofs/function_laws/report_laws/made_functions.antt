@@ -1,0 +1,3 @@
+pub mod EnteredPlans
+pub mod EnteringFunctions
+pub mod ReportedParts
