@@ -290,27 +290,27 @@ infer_body-returns-in-Yes g t c =
     (behind-yes 1 (infer_of c.args.sig.now c.args.room ((old.tree c.args.a) ∷ G) (old.tree c.args.b) c.args.units.now.left) (mid.tree c.in-Yes.ty) _ y.answer))
     (e.trees _ c.requires.a_live))
 
-pub infer_application-open_application-requires : goal.infer_application-open_application-requires
-infer_application-open_application-requires g t c =
+pub applications::infer_application-open_application-requires : goal.applications::infer_application-open_application-requires
+applications::infer_application-open_application-requires g t c =
     λ κs h. (omega (arith, c.decreases), (h.0, (h.1, (c.requires.ids, (c.requires.f_live, (c.requires.u_live, (c.requires.can, c.new-filled.ensures)))))))
 
-pub infer_application-returns-in_err-ty : goal.infer_application-returns-in_err-ty
-infer_application-returns-in_err-ty g t c =
+pub applications::infer_application-returns-in_err-ty : goal.applications::infer_application-returns-in_err-ty
+applications::infer_application-returns-in_err-ty g t c =
     let q = err_from_is_err_and c.from_residual.result c.from_residual.ensures.1 in
     refused-open c.open_application.ensures c.in_err-ty.was (q.1 ∙ ap Err q.2)
 
-pub infer_application-close-requires-clause-live : goal.infer_application-close-requires-clause-live
-infer_application-close-requires-clause-live g t c =
+pub applications::infer_application-close-requires-clause-live : goal.applications::infer_application-close-requires-clause-live
+applications::infer_application-close-requires-clause-live g t c =
     let y = found-open c.open_application.ensures c.in_ok-ty.was c.in-Yes.is in
     y.live
 
-pub infer_application-close-requires-clause-values : goal.infer_application-close-requires-clause-values
-infer_application-close-requires-clause-values g t c =
+pub applications::infer_application-close-requires-clause-values : goal.applications::infer_application-close-requires-clause-values
+applications::infer_application-close-requires-clause-values g t c =
     let y = found-open c.open_application.ensures c.in_ok-ty.was c.in-Yes.is in
     y.filled_with.values
 
-pub infer_application-returns-in-Yes : goal.infer_application-returns-in-Yes
-infer_application-returns-in-Yes g t c =
+pub applications::infer_application-returns-in-Yes : goal.applications::infer_application-returns-in-Yes
+applications::infer_application-returns-in-Yes g t c =
     let old = g.S.TermStore.held c.args.store.now in
     let mid = g.S.TermStore.held c.open_application.new.store in
     let G = scope_in old.tree c.args.scope.now in
@@ -322,12 +322,12 @@ infer_application-returns-in-Yes g t c =
     goes-after y.extends y.adds y.sum y.spends (decided-made c.close.result C c.close.ensures.answer c.close.ensures.live c.close.ensures.extends c.close.ensures.adds c.close.ensures.full)
     (ap (λ r. answered r c.open_application.new.units.left) (typed-low C low) ∙ y.answer) (λ x p. p) (type-part found)
 
-pub open_application-open_at-requires : goal.open_application-open_at-requires
-open_application-open_at-requires g t c =
+pub applications::open_application-open_at-requires : goal.applications::open_application-open_at-requires
+applications::open_application-open_at-requires g t c =
     λ κs h. (omega (arith, c.decreases), (h.0, (h.1, (c.requires.ids, (c.requires.f_live, (can-function c.requires.can, c.requires.none))))))
 
-pub open_application-fill_next-requires : goal.open_application-fill_next-requires
-open_application-fill_next-requires g t c =
+pub applications::open_application-fill_next-requires : goal.applications::open_application-fill_next-requires
+applications::open_application-fill_next-requires g t c =
     let old = g.S.TermStore.held c.args.store.now in
     let mid = g.S.TermStore.held c.open_at.new.store in
     let G = scope_in old.tree c.args.scope.now in
@@ -337,23 +337,23 @@ open_application-fill_next-requires g t c =
     let e = behind-yes 0 (infer_of c.args.sig.now c.args.room G (old.tree c.args.f) c.args.units.now.left) C _ y.answer in
     λ κs h. (omega (arith, c.decreases), (h.0, (h.1, (stands-stay _ _ y.extends _ _ c.requires.ids, (y.extends.lives _ c.requires.u_live, (y.live, (can-kept_id y.extends c.requires.u_live (can-argument c.requires.can), (can-kept old mid c.args.sig.now _ c.args.scope.now C y.extends (can-inferred (can-head c.requires.can) c.args.room c.args.units.now.left _ C e), (y.filled_with, found-low c.args.sig.now c.args.room c.args.units.now.left _ G (old.tree c.args.f) C e)))))))))
 
-pub open_application-returns-in_err-ty : goal.open_application-returns-in_err-ty
-open_application-returns-in_err-ty g t c =
+pub applications::open_application-returns-in_err-ty : goal.applications::open_application-returns-in_err-ty
+applications::open_application-returns-in_err-ty g t c =
     let old = g.S.TermStore.held c.args.store.now in
     let G = scope_in old.tree c.args.scope.now in
     let q = err_from_is_err_and c.from_residual.result c.from_residual.ensures.1 in
     let d = opens-behind 0 c.behind_in.result c.open_at.ensures c.behind_in.ensures.answer c.behind_in.ensures.live c.behind_in.ensures.refused in
     opens-refusal c.open_at.new.filled (q.1 ∙ ap Err q.2) (refused (decided.apply_typed c.args.sig.now (infer_sort_of c.args.sig.now c.args.room) (check_of c.args.sig.now c.args.room) G (old.tree c.args.u)) (refused-open d c.in_err-ty.was refl) refl (q.1 ∙ ap Err q.2) function-part)
 
-pub open_application-returns-in-No : goal.open_application-returns-in-No
-open_application-returns-in-No g t c =
+pub applications::open_application-returns-in-No : goal.applications::open_application-returns-in-No
+applications::open_application-returns-in-No g t c =
     let old = g.S.TermStore.held c.args.store.now in
     let G = scope_in old.tree c.args.scope.now in
     let d = opens-behind 0 c.behind_in.result c.open_at.ensures c.behind_in.ensures.answer c.behind_in.ensures.live c.behind_in.ensures.refused in
     opens-denial c.open_at.new.filled (denied-by (decided.apply_typed c.args.sig.now (infer_sort_of c.args.sig.now c.args.room) (check_of c.args.sig.now c.args.room) G (old.tree c.args.u)) (denied-open d c.in_ok-ty.was c.in-No.is) refl refl function-part)
 
-pub open_application-returns-in-Yes : goal.open_application-returns-in-Yes
-open_application-returns-in-Yes g t c =
+pub applications::open_application-returns-in-Yes : goal.applications::open_application-returns-in-Yes
+applications::open_application-returns-in-Yes g t c =
     let old = g.S.TermStore.held c.args.store.now in
     let mid = g.S.TermStore.held c.open_at.new.store in
     let G = scope_in old.tree c.args.scope.now in
@@ -368,21 +368,21 @@ open_application-returns-in-Yes g t c =
     function-part
     (λ x p. applied-part (finds-by c.args.sig.now c.args.room G (old.tree c.args.f) C c.args.units.now.left _ e) x (applied-before y.extends c.args.scope.now c.requires.can.context_live {S = c.args.sig.now} {c = C} (y.extends.trees _ c.requires.u_live) x p))
 
-pub open_at-returns-then-room-eq0 : goal.open_at-returns-then-room-eq0
-open_at-returns-then-room-eq0 g t c =
+pub applications::open_at-returns-then-room-eq0 : goal.applications::open_at-returns-then-room-eq0
+applications::open_at-returns-then-room-eq0 g t c =
     let old = g.S.TermStore.held c.args.store.now in
     let G = scope_in old.tree c.args.scope.now in
     opens-plain c.args.filled.now (Err Deep) c.requires.none (decided-deep _ old c.args.units.now _ (infer-none c.args.sig.now c.args.room c.args.units.now.left G (old.tree c.args.t) (omega (arith, c.if-room-eq0.true))))
 
-pub open_at-open_application-requires : goal.open_at-open_application-requires
-open_at-open_application-requires g t c =
+pub applications::open_at-open_application-requires : goal.applications::open_at-open_application-requires
+applications::open_at-open_application-requires g t c =
     let old = g.S.TermStore.held c.args.store.now in
     let is = c.look.ensures.says ∙ ap (says old.tree) c.in-App.is in
     let parts = transport (AllPass old.live) c.in-App.is c.look.ensures.live in
     λ κs h. (omega (arith, c.decreases), (h.0, (h.1, (c.requires.ids, (parts.0, (parts.1, (can-fewer ((c.args.room - 1) + 1) (transport (CanCheckIn old c.args.sig.now c.args.room c.args.scope.now) is c.requires.can) (omega arith), c.requires.none)))))))
 
-pub open_at-returns-in_ok-spend-in-App : goal.open_at-returns-in_ok-spend-in-App
-open_at-returns-in_ok-spend-in-App g t c =
+pub applications::open_at-returns-in_ok-spend-in-App : goal.applications::open_at-returns-in_ok-spend-in-App
+applications::open_at-returns-in_ok-spend-in-App g t c =
     let old = g.S.TermStore.held c.args.store.now in
     let G = scope_in old.tree c.args.scope.now in
     let is = c.look.ensures.says ∙ ap (says old.tree) c.in-App.is in
@@ -393,24 +393,24 @@ open_at-returns-in_ok-spend-in-App g t c =
     (opens-as (infer-is c.args.sig.now c.args.room (c.args.room - 1) c.args.units.now.left c.spend.new.self.left G (App (old.tree c.in-App.f) (old.tree c.in-App.u)) (omega (arith, c.if-room-eq0.false))
     (omega (arith, c.in_ok-spend-in-App.ensures.ok)) (transport (λ x. height x ≤ 2000) is c.look.ensures.low)) c.open_application.ensures))
 
-pub open_at-infer_at-requires : goal.open_at-infer_at-requires
-open_at-infer_at-requires g t c =
+pub applications::open_at-infer_at-requires : goal.applications::open_at-infer_at-requires
+applications::open_at-infer_at-requires g t c =
     λ κs h. (omega (arith, c.decreases), (h.0, (h.1, (c.requires.ids, (c.requires.t_live, c.requires.can)))))
 
-pub open_at-returns-in_default : goal.open_at-returns-in_default
-open_at-returns-in_default g t c =
+pub applications::open_at-returns-in_default : goal.applications::open_at-returns-in_default
+applications::open_at-returns-in_default g t c =
     opens-plain c.args.filled.now c.infer_at.result c.requires.none c.infer_at.ensures
 
-pub fill_next-fill_closed-requires : goal.fill_next-fill_closed-requires
-fill_next-fill_closed-requires g t c =
+pub applications::fill_next-fill_closed-requires : goal.applications::fill_next-fill_closed-requires
+applications::fill_next-fill_closed-requires g t c =
     λ κs h. (omega (arith, c.decreases), (h.0, (h.1, (c.requires.ids, (c.requires.u_live, (c.requires.ty_live, (c.requires.argument, (c.requires.function, (c.requires.filled, c.requires.low)))))))))
 
-pub fill_next-returns-then-not-stays_low : goal.fill_next-returns-then-not-stays_low
-fill_next-returns-then-not-stays_low g t c =
+pub applications::fill_next-returns-then-not-stays_low : goal.applications::fill_next-returns-then-not-stays_low
+applications::fill_next-returns-then-not-stays_low g t c =
     c.fill_closed.ensures
 
-pub fill_next-fill_product-requires : goal.fill_next-fill_product-requires
-fill_next-fill_product-requires g t c =
+pub applications::fill_next-fill_product-requires : goal.applications::fill_next-fill_product-requires
+applications::fill_next-fill_product-requires g t c =
     let old = g.S.TermStore.held c.args.store.now in
     let is = c.look.ensures.says ∙ ap (says old.tree) c.in-Pi.is in
     let parts = transport (AllPass old.live) c.in-Pi.is c.look.ensures.live in
@@ -447,8 +447,8 @@ fill_next-fill_product-requires g t c =
       ),
     )
 
-pub fill_next-returns-in-Pi : goal.fill_next-returns-in-Pi
-fill_next-returns-in-Pi g t c =
+pub applications::fill_next-returns-in-Pi : goal.applications::fill_next-returns-in-Pi
+applications::fill_next-returns-in-Pi g t c =
     let old = g.S.TermStore.held c.args.store.now in
     let G = scope_in old.tree c.args.scope.now in
     let is = c.look.ensures.says ∙ ap (says old.tree) c.in-Pi.is in
@@ -458,16 +458,16 @@ fill_next-returns-in-Pi g t c =
     c.fill_product.new.filled c.fill_product.result (decided.apply_typed c.args.sig.now (infer_sort_of c.args.sig.now c.args.room) (check_of c.args.sig.now c.args.room) G (old.tree c.args.u) (filled_tree old c.args.filled.now.args.items x) c.args.units.now.left)) (sym is)
     (opens-more c.fill_product.result (λ x p. inr (C, (first-formed c.args.sig.now true C [], p))) c.fill_product.ensures)
 
-pub fill_next-returns-in_default : goal.fill_next-returns-in_default
-fill_next-returns-in_default g t c =
+pub applications::fill_next-returns-in_default : goal.applications::fill_next-returns-in_default
+applications::fill_next-returns-in_default g t c =
     c.fill_closed-in_default.ensures
 
-pub fill_closed-closed_type-requires-clause-values : goal.fill_closed-closed_type-requires-clause-values
-fill_closed-closed_type-requires-clause-values g t c =
+pub applications::fill_closed-closed_type-requires-clause-values : goal.applications::fill_closed-closed_type-requires-clause-values
+applications::fill_closed-closed_type-requires-clause-values g t c =
     c.requires.filled.values
 
-pub fill_closed-returns-in_err-made : goal.fill_closed-returns-in_err-made
-fill_closed-returns-in_err-made g t c =
+pub applications::fill_closed-returns-in_err-made : goal.applications::fill_closed-returns-in_err-made
+applications::fill_closed-returns-in_err-made g t c =
     let old = g.S.TermStore.held c.args.store.now in
     let new = g.S.TermStore.held c.closed_type.new.store in
     let q = err_from_is_err_and c.from_residual.result c.from_residual.ensures.1 in
@@ -477,13 +477,13 @@ fill_closed-returns-in_err-made g t c =
     (adds-parts (λ x. IsPart x C) C old new (λ x p. p) c.in_err-made.ensures.adds) (λ full. lacks-parts (λ x. IsPart x C) C new (λ x p. p) (c.in_err-made.ensures.full full)) refl (omega arith)
     (λ x p. inl (inl (record { whole = C; formed = first-formed c.args.sig.now true C []; part = p }))))
 
-pub fill_closed-apply_typed-requires : goal.fill_closed-apply_typed-requires
-fill_closed-apply_typed-requires g t c =
+pub applications::fill_closed-apply_typed-requires : goal.applications::fill_closed-apply_typed-requires
+applications::fill_closed-apply_typed-requires g t c =
     let e = c.in_ok-made.ensures.extends in
     λ κs h. (omega (arith, c.decreases), (h.0, (h.1, (stands-stay _ _ e _ _ c.requires.ids, (e.lives _ c.requires.u_live, (c.in_ok-made.ensures.makes.0, (can-kept_id e c.requires.u_live c.requires.argument, can-kept_of e c.in_ok-made.ensures.makes.1 c.requires.function)))))))
 
-pub fill_closed-returns : goal.fill_closed-returns
-fill_closed-returns g t c =
+pub applications::fill_closed-returns : goal.applications::fill_closed-returns
+applications::fill_closed-returns g t c =
     let old = g.S.TermStore.held c.args.store.now in
     let mid = g.S.TermStore.held c.closed_type.new.store in
     let G = scope_in old.tree c.args.scope.now in
@@ -498,12 +498,12 @@ fill_closed-returns g t c =
     (λ x p. transport (λ w. IsAppliedPart c.args.sig.now G (old.tree c.args.u) w x) c.in_ok-made.ensures.makes.1
     (applied-before e c.args.scope.now c.requires.function.context_live {S = c.args.sig.now} {c = mid.tree c.in_ok-made.made} (e.trees _ c.requires.u_live) x p)))
 
-pub fill_product-closed_type-requires-clause-values : goal.fill_product-closed_type-requires-clause-values
-fill_product-closed_type-requires-clause-values g t c =
+pub applications::fill_product-closed_type-requires-clause-values : goal.applications::fill_product-closed_type-requires-clause-values
+applications::fill_product-closed_type-requires-clause-values g t c =
     c.requires.more.values
 
-pub fill_product-returns-in_err-domain : goal.fill_product-returns-in_err-domain
-fill_product-returns-in_err-domain g t c =
+pub applications::fill_product-returns-in_err-domain : goal.applications::fill_product-returns-in_err-domain
+applications::fill_product-returns-in_err-domain g t c =
     let old = g.S.TermStore.held c.args.store.now in
     let new = g.S.TermStore.held c.closed_type.new.store in
     let q = err_from_is_err_and c.from_residual.result c.from_residual.ensures.1 in
@@ -513,13 +513,13 @@ fill_product-returns-in_err-domain g t c =
     (adds-parts (λ x. IsPart x A) A old new (λ x p. p) c.in_err-domain.ensures.adds) (λ full. lacks-parts (λ x. IsPart x A) A new (λ x p. p) (c.in_err-domain.ensures.full full)) refl (omega arith)
     (λ x p. inl (inr (record { whole = A; formed = first-formed c.args.sig.now true A []; part = p }))))
 
-pub fill_product-fill_checked-requires : goal.fill_product-fill_checked-requires
-fill_product-fill_checked-requires g t c =
+pub applications::fill_product-fill_checked-requires : goal.applications::fill_product-fill_checked-requires
+applications::fill_product-fill_checked-requires g t c =
     let e = c.in_ok-domain.ensures.extends in
     λ κs h. (omega (arith, c.decreases), (h.0, (h.1, (stands-stay _ _ e _ _ c.requires.ids, (e.lives _ c.requires.u_live, (c.in_ok-domain.ensures.makes.0, (e.lives _ c.requires.b_live, (can-fewer c.args.room (can-kept_id e c.requires.u_live c.requires.argument) (omega arith), (can-kept_of e c.in_ok-domain.ensures.makes.1 (can-domain c.requires.function), will_fill-kept c.args.filled.now.args.items c.args.u c.args.b c.args.highest e c.requires.u_live c.requires.b_live c.requires.more)))))))))
 
-pub fill_product-returns : goal.fill_product-returns
-fill_product-returns g t c =
+pub applications::fill_product-returns : goal.applications::fill_product-returns
+applications::fill_product-returns g t c =
     let old = g.S.TermStore.held c.args.store.now in
     let mid = g.S.TermStore.held c.closed_type.new.store in
     let G = scope_in old.tree c.args.scope.now in
@@ -534,27 +534,27 @@ fill_product-returns g t c =
     (λ x p. inl (inr (record { whole = A; formed = first-formed c.args.sig.now true A []; part = p })))
     (λ x p. inl (against-before e c.args.scope.now c.requires.function.context_live {S = c.args.sig.now} (e.trees _ c.requires.u_live) c.in_ok-domain.ensures.makes.1 x p))
 
-pub fill_checked-check_at-requires : goal.fill_checked-check_at-requires
-fill_checked-check_at-requires g t c =
+pub applications::fill_checked-check_at-requires : goal.applications::fill_checked-check_at-requires
+applications::fill_checked-check_at-requires g t c =
     λ κs h. (omega (arith, c.decreases), (h.0, (h.1, (c.requires.ids, (c.requires.u_live, (c.requires.domain_live, (c.requires.argument, c.requires.wanted)))))))
 
-pub fill_checked-returns-in_err-behind_in : goal.fill_checked-returns-in_err-behind_in
-fill_checked-returns-in_err-behind_in g t c =
+pub applications::fill_checked-returns-in_err-behind_in : goal.applications::fill_checked-returns-in_err-behind_in
+applications::fill_checked-returns-in_err-behind_in g t c =
     let old = g.S.TermStore.held c.args.store.now in
     let q = err_from_is_err_and c.from_residual.result c.from_residual.ensures.1 in
     let d = decides-behind 1 c.behind_in.result c.check_at.ensures c.behind_in.ensures.answer c.behind_in.ensures.live c.behind_in.ensures.refused in
     let B = inst (ups (fill Var (trees_of old c.args.filled.now.args.items))) (old.tree c.args.b) in
     opens-refusal c.args.filled.now (q.1 ∙ ap Err q.2) (refused (decided.instance_type B (old.tree c.args.u)) d c.in_err-behind_in.was (q.1 ∙ ap Err q.2) (λ x p. p))
 
-pub fill_checked-returns-in-No : goal.fill_checked-returns-in-No
-fill_checked-returns-in-No g t c =
+pub applications::fill_checked-returns-in-No : goal.applications::fill_checked-returns-in-No
+applications::fill_checked-returns-in-No g t c =
     let old = g.S.TermStore.held c.args.store.now in
     let d = decides-behind 1 c.behind_in.result c.check_at.ensures c.behind_in.ensures.answer c.behind_in.ensures.live c.behind_in.ensures.refused in
     let B = inst (ups (fill Var (trees_of old c.args.filled.now.args.items))) (old.tree c.args.b) in
     opens-denial c.args.filled.now (denied-by (decided.instance_type B (old.tree c.args.u)) d c.in_ok-behind_in.was c.in-No.is (λ x p. p))
 
-pub fill_checked-returns-in_ok-push-in-Yes : goal.fill_checked-returns-in_ok-push-in-Yes
-fill_checked-returns-in_ok-push-in-Yes g t c =
+pub applications::fill_checked-returns-in_ok-push-in-Yes : goal.applications::fill_checked-returns-in_ok-push-in-Yes
+applications::fill_checked-returns-in_ok-push-in-Yes g t c =
     let old = g.S.TermStore.held c.args.store.now in
     let mid = g.S.TermStore.held c.check_at.new.store in
     let d = decides-behind 1 c.behind_in.result c.check_at.ensures c.behind_in.ensures.answer c.behind_in.ensures.live c.behind_in.ensures.refused in
@@ -565,11 +565,11 @@ fill_checked-returns-in_ok-push-in-Yes g t c =
     (will_fill-kept c.args.filled.now.args.items c.args.u c.args.b c.args.highest e c.requires.u_live c.requires.b_live c.requires.more) (e.lives _ c.requires.u_live) (e.lives _ c.requires.b_live)
     (codomain-kept c.args.filled.now.args.items e c.requires.more.values c.requires.b_live) (e.trees _ c.requires.u_live)
 
-pub apply_typed-product_of-requires : goal.apply_typed-product_of-requires
-apply_typed-product_of-requires g t c = λ κs h. (omega (arith, c.decreases), (h.0, (h.1, (c.requires.ids, (c.requires.ty_live, c.requires.function)))))
+pub applications::apply_typed-product_of-requires : goal.applications::apply_typed-product_of-requires
+applications::apply_typed-product_of-requires g t c = λ κs h. (omega (arith, c.decreases), (h.0, (h.1, (c.requires.ids, (c.requires.ty_live, c.requires.function)))))
 
-pub apply_typed-apply_product-requires : goal.apply_typed-apply_product-requires
-apply_typed-apply_product-requires g t c =
+pub applications::apply_typed-apply_product-requires : goal.applications::apply_typed-apply_product-requires
+applications::apply_typed-apply_product-requires g t c =
     let old = g.S.TermStore.held c.args.store.now in
     let mid = g.S.TermStore.held c.product_of.new.store in
     let d = c.product_of.ensures in
@@ -600,23 +600,23 @@ apply_typed-apply_product-requires g t c =
       ),
     )
 
-pub apply_typed-returns-in_err-product : goal.apply_typed-returns-in_err-product
-apply_typed-returns-in_err-product g t c =
+pub applications::apply_typed-returns-in_err-product : goal.applications::apply_typed-returns-in_err-product
+applications::apply_typed-returns-in_err-product g t c =
     let old = g.S.TermStore.held c.args.store.now in
     let G = scope_in old.tree c.args.scope.now in
     let q = err_from_is_err_and c.from_residual.result c.from_residual.ensures.1 in
     let d = c.product_of.ensures in
     refused (apply_product (check_of c.args.sig.now c.args.room) G (old.tree c.args.u)) d c.in_err-product.was (q.1 ∙ ap Err q.2) (λ x p. inl p)
 
-pub apply_typed-returns-in-No : goal.apply_typed-returns-in-No
-apply_typed-returns-in-No g t c =
+pub applications::apply_typed-returns-in-No : goal.applications::apply_typed-returns-in-No
+applications::apply_typed-returns-in-No g t c =
     let old = g.S.TermStore.held c.args.store.now in
     let G = scope_in old.tree c.args.scope.now in
     let d = c.product_of.ensures in
     denied-by (apply_product (check_of c.args.sig.now c.args.room) G (old.tree c.args.u)) d c.in_ok-product.was c.in-No.is (λ x p. inl p)
 
-pub apply_typed-returns-in-Yes : goal.apply_typed-returns-in-Yes
-apply_typed-returns-in-Yes g t c =
+pub applications::apply_typed-returns-in-Yes : goal.applications::apply_typed-returns-in-Yes
+applications::apply_typed-returns-in-Yes g t c =
     let old = g.S.TermStore.held c.args.store.now in
     let mid = g.S.TermStore.held c.product_of.new.store in
     let G = scope_in old.tree c.args.scope.now in
@@ -638,11 +638,11 @@ apply_typed-returns-in-Yes g t c =
       ),
     ))
 
-pub product_of-whnf_in-requires-clause-asked : goal.product_of-whnf_in-requires-clause-asked
-product_of-whnf_in-requires-clause-asked g t c = can-reduce c.requires.can
+pub applications::product_of-whnf_in-requires-clause-asked : goal.applications::product_of-whnf_in-requires-clause-asked
+applications::product_of-whnf_in-requires-clause-asked g t c = can-reduce c.requires.can
 
-pub product_of-reduced_product-requires : goal.product_of-reduced_product-requires
-product_of-reduced_product-requires g t c =
+pub applications::product_of-reduced_product-requires : goal.applications::product_of-reduced_product-requires
+applications::product_of-reduced_product-requires g t c =
     let mid = g.S.TermStore.held c.whnf_in.new.store in
     let e = c.in_ok-reduced.ensures.extends in
     λ κs h. (
@@ -663,16 +663,16 @@ product_of-reduced_product-requires g t c =
       ),
     )
 
-pub product_of-returns-then-is_product : goal.product_of-returns-then-is_product
-product_of-returns-then-is_product g t c =
+pub applications::product_of-returns-then-is_product : goal.applications::product_of-returns-then-is_product
+applications::product_of-returns-then-is_product g t c =
     let old = g.S.TermStore.held c.args.store.now in
     let G = scope_in old.tree c.args.scope.now in
     yes-given _ old c.args.units.now c.args.ty _ c.requires.ty_live
     (product_of-product c.args.sig.now (infer_sort_of c.args.sig.now c.args.room) G (old.tree c.args.ty) c.args.units.now.left (sym c.is_product.ensures ∙
     c.if-is_product.true))
 
-pub product_of-returns-in_err-reduced : goal.product_of-returns-in_err-reduced
-product_of-returns-in_err-reduced g t c =
+pub applications::product_of-returns-in_err-reduced : goal.applications::product_of-returns-in_err-reduced
+applications::product_of-returns-in_err-reduced g t c =
     let old = g.S.TermStore.held c.args.store.now in
     let G = scope_in old.tree c.args.scope.now in
     let q = err_from_is_err_and c.from_residual.result c.from_residual.ensures.1 in
@@ -681,8 +681,8 @@ product_of-returns-in_err-reduced g t c =
     c.is_product.ensures ∙ c.if-is_product.false) (c.in_err-reduced.ensures.answer memory full)) c.in_err-reduced.ensures.extends c.in_err-reduced.ensures.adds
     c.in_err-reduced.ensures.full c.in_err-reduced.ensures.sum c.in_err-reduced.ensures.spends (λ x w. inl (way-formed c.args.sig.now (old.tree c.args.ty) x w))
 
-pub product_of-returns : goal.product_of-returns
-product_of-returns g t c =
+pub applications::product_of-returns : goal.applications::product_of-returns
+applications::product_of-returns g t c =
     let old = g.S.TermStore.held c.args.store.now in
     let mid = g.S.TermStore.held c.whnf_in.new.store in
     let G = scope_in old.tree c.args.scope.now in
@@ -702,11 +702,11 @@ product_of-returns g t c =
       ),
     ))
 
-pub reduced_product-infer_sort_at-requires : goal.reduced_product-infer_sort_at-requires
-reduced_product-infer_sort_at-requires g t c = λ κs h. (omega (arith, c.decreases), (h.0, (h.1, (c.requires.ids, (c.requires.reduced_live, c.requires.can)))))
+pub applications::reduced_product-infer_sort_at-requires : goal.applications::reduced_product-infer_sort_at-requires
+applications::reduced_product-infer_sort_at-requires g t c = λ κs h. (omega (arith, c.decreases), (h.0, (h.1, (c.requires.ids, (c.requires.reduced_live, c.requires.can)))))
 
-pub reduced_product-returns-in_err-behind_in : goal.reduced_product-returns-in_err-behind_in
-reduced_product-returns-in_err-behind_in g t c =
+pub applications::reduced_product-returns-in_err-behind_in : goal.applications::reduced_product-returns-in_err-behind_in
+applications::reduced_product-returns-in_err-behind_in g t c =
     let old = g.S.TermStore.held c.args.store.now in
     let G = scope_in old.tree c.args.scope.now in
     let q = err_from_is_err_and c.from_residual.result c.from_residual.ensures.1 in
@@ -715,8 +715,8 @@ reduced_product-returns-in_err-behind_in g t c =
     (reduced-product (infer_sort_of c.args.sig.now c.args.room) G (old.tree c.args.reduced) c.args.units.now.left (sym c.is_product.ensures ∙
     c.if-not-is_product.false)) (refused (λ i end. answered (Ok (Yes (old.tree c.args.reduced))) end) d c.in_err-behind_in.was (q.1 ∙ ap Err q.2) (λ x p. p))
 
-pub reduced_product-returns-in-No : goal.reduced_product-returns-in-No
-reduced_product-returns-in-No g t c =
+pub applications::reduced_product-returns-in-No : goal.applications::reduced_product-returns-in-No
+applications::reduced_product-returns-in-No g t c =
     let old = g.S.TermStore.held c.args.store.now in
     let G = scope_in old.tree c.args.scope.now in
     let d = decides-behind 0 c.behind_in.result c.infer_sort_at.ensures c.behind_in.ensures.answer c.behind_in.ensures.live c.behind_in.ensures.refused in
@@ -724,8 +724,8 @@ reduced_product-returns-in-No g t c =
     (reduced-product (infer_sort_of c.args.sig.now c.args.room) G (old.tree c.args.reduced) c.args.units.now.left (sym c.is_product.ensures ∙
     c.if-not-is_product.false)) (denied-by (λ i end. answered (Ok (Yes (old.tree c.args.reduced))) end) d c.in_ok-behind_in.was c.in-No.is (λ x p. p))
 
-pub reduced_product-returns-in-Yes : goal.reduced_product-returns-in-Yes
-reduced_product-returns-in-Yes g t c =
+pub applications::reduced_product-returns-in-Yes : goal.applications::reduced_product-returns-in-Yes
+applications::reduced_product-returns-in-Yes g t c =
     let old = g.S.TermStore.held c.args.store.now in
     let mid = g.S.TermStore.held c.infer_sort_at.new.store in
     let G = scope_in old.tree c.args.scope.now in
@@ -736,16 +736,16 @@ reduced_product-returns-in-Yes g t c =
     (reduced-yes (infer_sort_of c.args.sig.now c.args.room) G (old.tree c.args.reduced) (mid.tree c.args.reduced) _ c.args.units.now.left _ (sym
     c.is_product.ensures ∙ c.if-not-is_product.false) (e.trees _ c.requires.reduced_live) y.answer) (λ x p. p)
 
-pub reduced_product-returns-then-not-is_product : goal.reduced_product-returns-then-not-is_product
-reduced_product-returns-then-not-is_product g t c =
+pub applications::reduced_product-returns-then-not-is_product : goal.applications::reduced_product-returns-then-not-is_product
+applications::reduced_product-returns-then-not-is_product g t c =
     let old = g.S.TermStore.held c.args.store.now in
     let G = scope_in old.tree c.args.scope.now in
     meant-as
     (reduced-other (infer_sort_of c.args.sig.now c.args.room) G (old.tree c.args.reduced) c.args.units.now.left (sym c.is_product.ensures ∙
     c.if-not-is_product.true)) (decided-denied _ old c.args.units.now c.deny.result _ c.deny.ensures.answer c.deny.ensures.live)
 
-pub apply_product-check_at-requires : goal.apply_product-check_at-requires
-apply_product-check_at-requires g t c =
+pub applications::apply_product-check_at-requires : goal.applications::apply_product-check_at-requires
+applications::apply_product-check_at-requires g t c =
     let old = g.S.TermStore.held c.args.store.now in
     let is = c.look.ensures.says ∙ ap (says old.tree) c.in-Pi.is in
     let parts = transport (AllPass old.live) c.in-Pi.is c.look.ensures.live in
@@ -773,8 +773,8 @@ apply_product-check_at-requires g t c =
       ),
     )
 
-pub apply_product-instance_type-requires-clause-b_live : goal.apply_product-instance_type-requires-clause-b_live
-apply_product-instance_type-requires-clause-b_live g t c =
+pub applications::apply_product-instance_type-requires-clause-b_live : goal.applications::apply_product-instance_type-requires-clause-b_live
+applications::apply_product-instance_type-requires-clause-b_live g t c =
     let old = g.S.TermStore.held c.args.store.now in
     let d = decides-behind 1 c.behind_in.result c.check_at.ensures c.behind_in.ensures.answer c.behind_in.ensures.live c.behind_in.ensures.refused in
     let y = found d c.in_ok-behind_in-in-Pi.was c.in-Yes.is in
@@ -782,22 +782,22 @@ apply_product-instance_type-requires-clause-b_live g t c =
     let parts = transport (AllPass old.live) c.in-Pi.is c.look.ensures.live in
     e.lives _ parts.1
 
-pub apply_product-instance_type-requires-clause-u_live : goal.apply_product-instance_type-requires-clause-u_live
-apply_product-instance_type-requires-clause-u_live g t c =
+pub applications::apply_product-instance_type-requires-clause-u_live : goal.applications::apply_product-instance_type-requires-clause-u_live
+applications::apply_product-instance_type-requires-clause-u_live g t c =
     let d = decides-behind 1 c.behind_in.result c.check_at.ensures c.behind_in.ensures.answer c.behind_in.ensures.live c.behind_in.ensures.refused in
     let y = found d c.in_ok-behind_in-in-Pi.was c.in-Yes.is in
     let e = y.extends in
     e.lives _ c.requires.u_live
 
-pub apply_product-instance_type-requires-clause-indices : goal.apply_product-instance_type-requires-clause-indices
-apply_product-instance_type-requires-clause-indices g t c =
+pub applications::apply_product-instance_type-requires-clause-indices : goal.applications::apply_product-instance_type-requires-clause-indices
+applications::apply_product-instance_type-requires-clause-indices g t c =
     let d = decides-behind 1 c.behind_in.result c.check_at.ensures c.behind_in.ensures.answer c.behind_in.ensures.live c.behind_in.ensures.refused in
     let y = found d c.in_ok-behind_in-in-Pi.was c.in-Yes.is in
     let e = y.extends in
     can-indices (can-kept_id e c.requires.u_live c.requires.argument)
 
-pub apply_product-returns-in_err-behind_in-in-Pi : goal.apply_product-returns-in_err-behind_in-in-Pi
-apply_product-returns-in_err-behind_in-in-Pi g t c =
+pub applications::apply_product-returns-in_err-behind_in-in-Pi : goal.applications::apply_product-returns-in_err-behind_in-in-Pi
+applications::apply_product-returns-in_err-behind_in-in-Pi g t c =
     let old = g.S.TermStore.held c.args.store.now in
     let mid = g.S.TermStore.held c.check_at.new.store in
     let G = scope_in old.tree c.args.scope.now in
@@ -810,8 +810,8 @@ apply_product-returns-in_err-behind_in-in-Pi g t c =
     (check_of c.args.sig.now c.args.room) G (old.tree c.args.u) p c.args.units.now.left)) (sym is)
     (refused (decided.instance_type B (old.tree c.args.u)) d c.in_err-behind_in-in-Pi.was (q.1 ∙ ap Err q.2) (λ x p. inl p))
 
-pub apply_product-returns-in-No : goal.apply_product-returns-in-No
-apply_product-returns-in-No g t c =
+pub applications::apply_product-returns-in-No : goal.applications::apply_product-returns-in-No
+applications::apply_product-returns-in-No g t c =
     let old = g.S.TermStore.held c.args.store.now in
     let mid = g.S.TermStore.held c.check_at.new.store in
     let G = scope_in old.tree c.args.scope.now in
@@ -823,8 +823,8 @@ apply_product-returns-in-No g t c =
     (check_of c.args.sig.now c.args.room) G (old.tree c.args.u) p c.args.units.now.left)) (sym is)
     (denied-by (decided.instance_type B (old.tree c.args.u)) d c.in_ok-behind_in-in-Pi.was c.in-No.is (λ x p. inl p))
 
-pub apply_product-returns-in-Yes : goal.apply_product-returns-in-Yes
-apply_product-returns-in-Yes g t c =
+pub applications::apply_product-returns-in-Yes : goal.applications::apply_product-returns-in-Yes
+applications::apply_product-returns-in-Yes g t c =
     let old = g.S.TermStore.held c.args.store.now in
     let mid = g.S.TermStore.held c.check_at.new.store in
     let G = scope_in old.tree c.args.scope.now in
@@ -844,8 +844,8 @@ apply_product-returns-in-Yes g t c =
     c.instance_type.ensures.adds c.instance_type.ensures.full) (at-then (check_of c.args.sig.now c.args.room) G (old.tree c.args.u) A B _ PU
     c.args.units.now.left _ puts y.answer) (λ x p. inl p) (λ x p. inr (transport (IsPart x) puts p)))
 
-pub apply_product-returns-in_default : goal.apply_product-returns-in_default
-apply_product-returns-in_default g t c =
+pub applications::apply_product-returns-in_default : goal.applications::apply_product-returns-in_default
+applications::apply_product-returns-in_default g t c =
     let old = g.S.TermStore.held c.args.store.now in
     let G = scope_in old.tree c.args.scope.now in
     meant-as

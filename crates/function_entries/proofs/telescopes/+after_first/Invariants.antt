@@ -1,5 +1,0 @@
-use Rattle.std.proofs.Common.{length}
-use Rattle.function_entries.proofs.telescopes.+after_first.Given as goal
-
-abbrev pub decreases-after_first : goal.decreases-after_first
-decreases-after_first l = length l.terms.now
