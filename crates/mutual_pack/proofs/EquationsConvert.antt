@@ -28,12 +28,13 @@ use Rattle.case_below_gen.specs.CourseLaws.{IsRegular, IsRegularConstructor}
 use Rattle.case_below_gen.proofs.Computing.{all-slice_get, length-shapes}
 use Rattle.case_below_gen.proofs.Filling.{variable-filled}
 use Rattle.case_below_gen.proofs.Functions.{converts-from}
+use Rattle.core_sig.specs.Raw.{MutualRaw}
 use Rattle.mutual_pack.specs.declared.packed_family.PackedFamily.{PackedFamily}
 use Rattle.mutual_pack.specs.EquationLaws.{HasPackedInductions, SidesConvert}
 use Rattle.mutual_pack.specs.Equations.{inductions_in, constructor_number, arguments_of, equation_telescope, left_side, right_side, bounded_sides, induction_equation}
 use Rattle.mutual_pack.specs.InductionLaws.{HasInductions}
 use Rattle.mutual_pack.specs.Inductions.{packed_numbers, packed_number, constructor_at, induction_size, selected_motive, eliminated}
-use Rattle.mutual_pack.specs.MutualFamilies.{MutualRaw, Packed, all_constructors}
+use Rattle.mutual_pack.specs.MutualFamilies.{Packed, all_constructors}
 use Rattle.mutual_pack.specs.Packing.{members_of, packed_with}
 use Rattle.mutual_pack.proofs.InductionsUnfold.{run-at, induction-unfolds}
 use Rattle.mutual_pack.proofs.PackedTypes.{packed-as}

@@ -7,9 +7,9 @@ use Rattle.theory.specs.Terms.Term.{Var, Sort, Pi, Lam, App, Const, Fam, Con, El
 use Rattle.theory.specs.Families.{Family, Plain, Recursive}
 use Rattle.theory.specs.Signatures.{Definition}
 use Rattle.core_sig.specs.FamilyShapes.{family_shape}
-use Rattle.core_sig.specs.Raw.{RawConstructor}
+use Rattle.core_sig.specs.Raw.{RawConstructor, MutualRaw}
 use Rattle.mutual_pack.specs.declared.stop.MutualStop.TheVariants.{TagCount, MemberLevel, NotPositive}
-use Rattle.mutual_pack.specs.MutualFamilies.{MutualRaw, Packed}
+use Rattle.mutual_pack.specs.MutualFamilies.{Packed}
 use Rattle.mutual_pack.specs.Inductions.{packed_numbers, induction_type, induction_term}
 use Rattle.mutual_pack.specs.Packing.{pack}
 

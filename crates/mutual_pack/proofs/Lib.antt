@@ -5,13 +5,13 @@ mod Flattening
 mod HighEquations
 pub mod InductionsUnfold
 mod Lookups
-mod PackedScoped
+pub mod PackedScoped
 pub mod PackedTypes
 pub mod Positive
-mod RecursionsConvert
-mod Runs
+pub mod RecursionsConvert
+pub mod Runs
 mod ScopedEquations
 pub mod ScopedInductions
-mod Tags
+pub mod Tags
 mod TooHigh
 pub mod Unfolding

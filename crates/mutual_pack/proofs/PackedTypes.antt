@@ -8,11 +8,11 @@ use Rattle.theory.specs.Terms.Term.{Var, Sort, Pi, Lam, App, Let, Const, Fam, Co
 use Rattle.theory.specs.Telescopes.{applied}
 use Rattle.core_terms.specs.Answers.{and_then}
 use Rattle.core_terms.specs.Levels.{variable, run}
-use Rattle.core_sig.specs.Raw.{RawConstructor}
+use Rattle.core_sig.specs.Raw.{RawConstructor, RawMember, MutualRaw}
 use Rattle.mutual_pack.specs.declared.members.Members.{Members}
 use Rattle.mutual_pack.specs.declared.stop.MutualStop.{MutualStop}
 use Rattle.mutual_pack.specs.declared.stop.MutualStop.TheVariants.{Deep, TagCount, MemberLevel}
-use Rattle.mutual_pack.specs.MutualFamilies.{RawMember, MutualRaw, Packed, all_constructors}
+use Rattle.mutual_pack.specs.MutualFamilies.{Packed, all_constructors}
 use Rattle.mutual_pack.specs.Members.{mentions_member, whole_member, is_positive_end, is_positive_argument, offending_argument, offence_at, offence, offence_or, offence_among}
 use Rattle.mutual_pack.specs.Packing.{tagged, packed_end, packed_argument, packed_type, packed_constructor, members_have_low_types, other_level, unless_other, level_with, level_from, common_level, members_of, is_low_packed, bounded_packed, packed_with, unless_offended, pack_at, pack_low, pack}
 use Rattle.mutual_pack.specs.Inductions.{level_in}

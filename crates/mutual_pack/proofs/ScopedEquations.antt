@@ -20,12 +20,13 @@ use Rattle.core_sig.proofs.PlacedDrafts.{AreBelow, below-here, below-next, one-l
 use Rattle.core_sig.proofs.ShapeScopes.{IsDraftConstructor, family-draft, inner-draft, constructor-at-draft}
 use Rattle.case_below_gen.proofs.Computing.{all-slice_get, length-shapes}
 use Rattle.case_below_gen.proofs.ScopedCases.{arguments-behind}
+use Rattle.core_sig.specs.Raw.{MutualRaw}
 use Rattle.mutual_pack.specs.declared.packed_family.PackedFamily.{PackedFamily}
 use Rattle.mutual_pack.specs.EquationLaws.{HasPackedInductions}
 use Rattle.mutual_pack.specs.EquationScopes.{AreScopedSides, SidesAreScoped}
 use Rattle.mutual_pack.specs.Equations.{inductions_in, constructor_number, induction_at, recursion_from, recursion_at, applied_to_recursions, places, equation_telescope, left_side, right_side, arguments_of, induction_equation}
 use Rattle.mutual_pack.specs.Inductions.{packed_numbers, packed_number, induction_telescope, induction_size}
-use Rattle.mutual_pack.specs.MutualFamilies.{MutualRaw, Packed, all_constructors}
+use Rattle.mutual_pack.specs.MutualFamilies.{Packed, all_constructors}
 use Rattle.mutual_pack.specs.PackedEntries.{HasPacked}
 use Rattle.mutual_pack.specs.Packing.{members_of, packed_with}
 use Rattle.mutual_pack.proofs.EquationsConvert.{sides-are, constructor-there}

@@ -15,13 +15,13 @@ use Rattle.theory.specs.Families.{Argument, Plain, Recursive, Constructor, Famil
 use Rattle.theory.proofs.Instances.{inst-same, inst-var}
 use Rattle.core_terms.specs.Levels.{run}
 use Rattle.core_terms.proofs.LeadingProducts.{is_product}
-use Rattle.core_sig.specs.Raw.{RawConstructor}
+use Rattle.core_sig.specs.Raw.{RawConstructor, MutualRaw}
 use Rattle.core_sig.proofs.Arguments.{spine_of-applied, length-spine_of-head, weaken-weaken_by}
 use Rattle.core_sig.proofs.EntryInstances.{ren-id}
 use Rattle.core_sig.proofs.RecursiveForms.{head-is}
 use Rattle.mutual_pack.specs.declared.members.Members.{Members}
 use Rattle.mutual_pack.specs.Members.{whole_member}
-use Rattle.mutual_pack.specs.MutualFamilies.{MutualRaw, all_constructors}
+use Rattle.mutual_pack.specs.MutualFamilies.{all_constructors}
 use Rattle.mutual_pack.specs.Packing.{tagged, packed_end, packed_argument, packed_type, packed_constructor, packed_family}
 use Rattle.mutual_pack.proofs.PackedTypes.{neither}
 use Rattle.mutual_pack.proofs.RecursionsConvert.{HasTag, IsIdentity, identity-up}

@@ -21,14 +21,14 @@ use Rattle.core_terms.specs.Levels.{variable, run}
 use Rattle.core_terms.proofs.Builders.{applied-push}
 use Rattle.core_terms.proofs.Placing.{run-push}
 use Rattle.core_sig.specs.KindTests.{is_variable}
-use Rattle.core_sig.specs.Raw.{RawConstructor}
+use Rattle.core_sig.specs.Raw.{RawConstructor, RawMember}
 use Rattle.core_sig.specs.Settling.{renumbered}
 use Rattle.case_below_gen.specs.CourseLaws.{HasBody}
 use Rattle.case_below_gen.proofs.Filling.{run-filled}
 use Rattle.case_below_gen.proofs.Functions.{converts-from, binds-functions, constant-unfolds}
 use Rattle.case_below_gen.proofs.Functions.Binds.{none}
 use Rattle.mutual_pack.specs.declared.members.Members.{Members}
-use Rattle.mutual_pack.specs.MutualFamilies.{RawMember, all_constructors}
+use Rattle.mutual_pack.specs.MutualFamilies.{all_constructors}
 use Rattle.mutual_pack.specs.Members.{is_member, member_number, mentions_member, member_at, whole_member, is_positive_end, is_positive_argument, offending_argument}
 use Rattle.mutual_pack.specs.Packing.{tagged, packed_end, packed_argument, packed_type, member_entry, member_entries, members_of, packed_with}
 use Rattle.mutual_pack.specs.PackingLaws.{defined_number, MembersUnfold}

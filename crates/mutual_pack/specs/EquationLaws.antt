@@ -7,10 +7,11 @@ use Rattle.theory.specs.Signatures.{Signature, FamilyOf, IsEntryAt}
 use Rattle.theory.specs.Conversion.{Converts}
 use Rattle.core_sig.specs.FamilyShapes.{family_shape}
 use Rattle.case_below_gen.specs.CourseLaws.{IsRegular}
+use Rattle.core_sig.specs.Raw.{MutualRaw}
 use Rattle.mutual_pack.specs.Equations.{inductions_in, constructor_number, induction_equation}
 use Rattle.mutual_pack.specs.InductionLaws.{HasInductions}
 use Rattle.mutual_pack.specs.Inductions.{packed_number}
-use Rattle.mutual_pack.specs.MutualFamilies.{MutualRaw, Packed, all_constructors}
+use Rattle.mutual_pack.specs.MutualFamilies.{Packed, all_constructors}
 use Rattle.mutual_pack.specs.Packing.{pack}
 
 -- The signature has the packed family, with the parameters and the types that are given, and the inductions of the members.

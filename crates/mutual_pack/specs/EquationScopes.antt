@@ -5,9 +5,10 @@ use Rattle.theory.specs.Telescopes.{Telescope}
 use Rattle.theory.specs.Families.{Family, mentions}
 use Rattle.theory.specs.Signatures.{Signature}
 use Rattle.theory.specs.SignatureScopes.{IsScoped, IsScopedSignature, IsScopedTelescope}
+use Rattle.core_sig.specs.Raw.{MutualRaw}
 use Rattle.mutual_pack.specs.EquationLaws.{HasPackedInductions}
 use Rattle.mutual_pack.specs.Equations.{constructor_number, induction_equation}
-use Rattle.mutual_pack.specs.MutualFamilies.{MutualRaw, Packed, all_constructors}
+use Rattle.mutual_pack.specs.MutualFamilies.{Packed, all_constructors}
 use Rattle.mutual_pack.specs.PackedEntries.{HasPacked}
 use Rattle.mutual_pack.specs.Packing.{pack}
 

@@ -1,11 +1,11 @@
 -- The conditions under which numbers fit 32 bits.
 use Rattle.std.specs.Prelude.{◌+◌, ◌≤◌, ◌<◌, List, [], ◌∷◌, length}
 use Rattle.theory.specs.Terms.{height}
-use Rattle.core_sig.specs.Raw.{RawConstructor}
+use Rattle.core_sig.specs.Raw.{RawConstructor, RawMember}
 use Rattle.core_sig.specs.Shapes.{Shape, HaveFewArguments}
 use Rattle.mutual_pack.specs.declared.members.Members.{Members}
 use Rattle.mutual_pack.specs.declared.packed_family.PackedFamily.{PackedFamily}
-use Rattle.mutual_pack.specs.MutualFamilies.{Packed, RawMember}
+use Rattle.mutual_pack.specs.MutualFamilies.{Packed}
 
 -- the entries have numbers, and so have the variables of the types of constructors
 pub record AreNear (g : Members) : Type 0 where

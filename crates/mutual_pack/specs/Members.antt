@@ -3,9 +3,8 @@
 use Rattle.std.specs.Prelude.{ℕ, suc, ◌+◌, ◌-◌, ◌==◌, nat_lt, nat_le, ◌&&◌, ◌||◌, not, Bool, false, cond, Option, Some, None, is_some, List, [], ◌∷◌, length}
 use Rattle.theory.specs.Terms.{Term, Pi, Lam, App, Let, Const}
 use Rattle.core_sig.specs.KindTests.{is_variable}
-use Rattle.core_sig.specs.Raw.{RawConstructor}
+use Rattle.core_sig.specs.Raw.{RawConstructor, RawMember}
 use Rattle.mutual_pack.specs.declared.members.Members.{Members}
-use Rattle.mutual_pack.specs.MutualFamilies.{RawMember}
 
 -- the constant stands for a member
 abbrev pub is_member : Members → ℕ → Bool

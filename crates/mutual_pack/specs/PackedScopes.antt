@@ -2,7 +2,8 @@
 use Rattle.std.specs.Prelude.{◌≡◌, Ok, ℕ, ◌+◌, ◌<◌, length, All}
 use Rattle.theory.specs.Signatures.{Signature, IsPrefix}
 use Rattle.theory.specs.SignatureScopes.{IsConstantNumber, IsConstructorNumber, IsFamilyNumber, IsScoped}
-use Rattle.mutual_pack.specs.MutualFamilies.{MutualRaw, Packed, all_constructors}
+use Rattle.core_sig.specs.Raw.{MutualRaw}
+use Rattle.mutual_pack.specs.MutualFamilies.{Packed, all_constructors}
 use Rattle.mutual_pack.specs.Packing.{pack}
 
 -- The written types of constructors are scoped over each signature that begins with S and then has a constant for each member.

@@ -10,11 +10,11 @@ use Rattle.core_terms.specs.Answers.{and_then, is_low, are_low}
 use Rattle.core_terms.specs.declared.stop.Stop.{Stop}
 use Rattle.core_terms.specs.declared.stop.Stop.TheVariants.{Deep as TooDeep}
 use Rattle.core_sig.specs.ByLevels.{family_at}
-use Rattle.core_sig.specs.Raw.{RawConstructor, RawFamily}
+use Rattle.core_sig.specs.Raw.{RawConstructor, RawFamily, RawMember, MutualRaw}
 use Rattle.mutual_pack.specs.declared.members.Members.{Members}
 use Rattle.mutual_pack.specs.declared.stop.MutualStop.{MutualStop}
 use Rattle.mutual_pack.specs.declared.stop.MutualStop.TheVariants.{Memory, Deep, TagCount, MemberLevel, NotPositive}
-use Rattle.mutual_pack.specs.MutualFamilies.{RawMember, MutualRaw, Packed, all_constructors}
+use Rattle.mutual_pack.specs.MutualFamilies.{Packed, all_constructors}
 use Rattle.mutual_pack.specs.Members.{whole_member, offence_among}
 
 -- ---- terms. T has the number that stood for the first member, and S the next one.

@@ -7,9 +7,10 @@ use Rattle.theory.specs.Signatures.{Signature, HasClosedBodies}
 use Rattle.theory.specs.Conversion.{Converts}
 use Rattle.core_sig.specs.KindTests.{inner_count}
 use Rattle.core_sig.specs.Settling.{renumbered}
+use Rattle.core_sig.specs.Raw.{MutualRaw}
 use Rattle.mutual_pack.specs.declared.members.Members.{Members}
 use Rattle.mutual_pack.specs.Inductions.{level_in}
-use Rattle.mutual_pack.specs.MutualFamilies.{MutualRaw, Packed, all_constructors}
+use Rattle.mutual_pack.specs.MutualFamilies.{Packed, all_constructors}
 use Rattle.mutual_pack.specs.Members.{is_member, mentions_member}
 use Rattle.mutual_pack.specs.Packing.{members_of, pack, packed_type}
 

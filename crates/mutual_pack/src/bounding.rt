@@ -4,8 +4,8 @@ ghost use Rattle.theory.specs.Terms as tree;
 ghost use Rattle.core_terms.specs.Answers as answers;
 ghost use Rattle.core_terms.specs.Meanings.{tree_of};
 ghost use Rattle.core_sig.specs.Meanings.{entry_of};
-ghost use Rattle.core_sig.specs.Raw.{raw_constructor_of};
-ghost use Rattle.mutual_pack.specs.MutualFamilies.{member_of, packed_of};
+ghost use Rattle.core_sig.specs.Raw.{raw_constructor_of, member_of};
+ghost use Rattle.mutual_pack.specs.MutualFamilies.{packed_of};
 ghost use Rattle.mutual_pack.specs.Fitting.{AreLowMembers, HaveLowTypes};
 ghost use Rattle.mutual_pack.specs.Packing as spec;
 

@@ -1,7 +1,7 @@
 //! The common level of members.
 ghost use Rattle.std.specs.Prelude.{◌≡◌, ◌<◌, ◌+◌, ◌^◌, length, map};
 ghost use Rattle.core_terms.specs.Meanings.{tree_of};
-ghost use Rattle.mutual_pack.specs.MutualFamilies.{member_of};
+ghost use Rattle.core_sig.specs.Raw.{member_of};
 ghost use Rattle.mutual_pack.specs.Packing as spec;
 
 use crate::MutualStop;

@@ -4,8 +4,8 @@ ghost use Rattle.theory.specs.Terms as tree;
 ghost use Rattle.core_terms.specs.Answers.{Gives};
 ghost use Rattle.core_terms.specs.Meanings.{tele_of, tree_of};
 ghost use Rattle.core_sig.specs.Meanings.{entry_of};
-ghost use Rattle.core_sig.specs.Raw.{raw_constructor_of, raw_of};
-ghost use Rattle.mutual_pack.specs.MutualFamilies.{all_constructors, member_of, mutual_of, packed_of};
+ghost use Rattle.core_sig.specs.Raw.{raw_constructor_of, raw_of, member_of, mutual_of};
+ghost use Rattle.mutual_pack.specs.MutualFamilies.{all_constructors, packed_of};
 ghost use Rattle.mutual_pack.specs.Fitting.{AreLowMembers, AreNear, HaveLowTypes};
 ghost use Rattle.mutual_pack.specs.Packing as spec;
 

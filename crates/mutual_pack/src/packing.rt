@@ -1,7 +1,8 @@
 ghost use Rattle.std.specs.Prelude.{◌≡◌, ◌<◌, ◌+◌, ◌^◌, IfOk, OnErr, length, map};
 ghost use Rattle.core_terms.specs.Answers.{GivesUnless};
 ghost use Rattle.core_terms.specs.declared.stop.Stop.TheVariants.{Memory};
-ghost use Rattle.mutual_pack.specs.MutualFamilies.{all_constructors, member_of, mutual_of, packed_of};
+ghost use Rattle.core_sig.specs.Raw.{member_of, mutual_of};
+ghost use Rattle.mutual_pack.specs.MutualFamilies.{all_constructors, packed_of};
 ghost use Rattle.mutual_pack.specs.Fitting.{AreLowMembers, AreNear};
 ghost use Rattle.mutual_pack.specs.Packing as spec;
 

@@ -3,8 +3,8 @@ ghost use Rattle.std.specs.Prelude.{◌≡◌, ◌<◌, ◌+◌, ◌^◌, length
 ghost use Rattle.theory.specs.Terms as tree;
 ghost use Rattle.core_terms.specs.Meanings.{tree_of};
 ghost use Rattle.core_sig.specs.KindTests as kinds;
-ghost use Rattle.core_sig.specs.Raw.{raw_constructor_of};
-ghost use Rattle.mutual_pack.specs.MutualFamilies.{all_constructors, member_of};
+ghost use Rattle.core_sig.specs.Raw.{raw_constructor_of, member_of};
+ghost use Rattle.mutual_pack.specs.MutualFamilies.{all_constructors};
 ghost use Rattle.mutual_pack.specs.Members as spec;
 ghost use Rattle.mutual_pack.specs.Fitting.{AreLowMembers, HaveLowTypes};
 

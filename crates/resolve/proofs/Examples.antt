@@ -1,3 +1,4 @@
 mod Declarations
+mod MutualFamilies
 mod Sample
 mod Terms

@@ -5,10 +5,13 @@ pub mod Counts
 mod Examples
 pub mod KnownNames
 pub mod LawProofs
+pub mod MemberNumbers
 pub mod Nearest
+pub mod NewMembers
 pub mod NewNames
 pub mod ScopedFamilies
 pub mod ScopedFunctions
+pub mod ScopedMembers
 pub mod ScopedPatterns
 pub mod ScopedTerms
 pub mod Sizes

@@ -30,7 +30,7 @@ pub any : {A : Type 0} (r : Result A ResolveStop) → IfOk r (λ a. Unit {0})
 any (Ok a) = tt
 any (Err e) = tt
 
-parameters_resolved : (S : Signature) (known : Known) → IsKnown S known → (before : List (List ℕ)) (params : List surf.Typed)
+pub parameters_resolved : (S : Signature) (known : Known) → IsKnown S known → (before : List (List ℕ)) (params : List surf.Typed)
     → IfOk (parameters known before params) (AreParameters S (length before) (length params))
 parameters_resolved S known k before [] = record { scoped = tt; low = All-nil (λ t. height t ≤ 2000); many = refl }
 parameters_resolved S known k before (p ∷ params) =
@@ -45,7 +45,7 @@ parameters_resolved S known k before (p ∷ params) =
       many = ap (λ n. suc n) y.many;
     }))
 
-constructors_resolved : (S T : Signature) (known : Known) → IsKnown T known → (scope : Scope) (before : List (List ℕ)) (cons : List surf.Typed)
+pub constructors_resolved : (S T : Signature) (known : Known) → IsKnown T known → (scope : Scope) (before : List (List ℕ)) (cons : List surf.Typed)
     → IfOk (constructors S known scope before cons) (All (λ c. IsResolved T (length scope) c.type))
 constructors_resolved S T known k scope before [] = All-nil (λ c. IsResolved T (length scope) c.type)
 constructors_resolved S T known k scope before (c ∷ cons) =

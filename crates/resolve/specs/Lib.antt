@@ -5,6 +5,8 @@ pub mod Families
 pub mod Forms
 pub mod Functions
 pub mod Laws
+pub mod MemberNumbers
+pub mod Mutual
 pub mod Named
 pub mod Names
 pub mod Nearest

@@ -51,6 +51,11 @@ known_in S name = option_map (symbol S) (find S name)
 abbrev pub with_name : List ℕ → tree.Term → Known → Known
 with_name own t known name = if bytes_eq own name then Some t else known name
 
+-- names more, which stand for the constants from n on
+abbrev pub with_constants : (n : ℕ) (names : List (List ℕ)) → Known → Known
+with_constants n [] known = known
+with_constants n (own ∷ names) known = with_constants (n + 1) names (with_name own (tree.Const n) known)
+
 -- a variable, else what is known, else the name is unknown
 abbrev pub named_term : Word → Option ℕ → Option tree.Term → Result tree.Term ResolveStop
 named_term x (Some n) known = Ok (tree.Var n)

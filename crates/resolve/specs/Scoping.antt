@@ -1,14 +1,14 @@
 -- Resolved terms, families and clauses are scoped, as calls on them require.
-use Rattle.std.specs.Prelude.{◌≡◌, ℕ, ◌+◌, ◌≤◌, length, Some, slice_get}
+use Rattle.std.specs.Prelude.{◌≡◌, ℕ, ◌+◌, ◌≤◌, ◌<◌, length, Some, slice_get}
 use Rattle.std.specs.List.{All}
 use Rattle.theory.specs.Terms.{Term, height}
 use Rattle.theory.specs.Families.{Family, Constructor}
 use Rattle.theory.specs.Signatures.{Signature, IsEntryAt, FamilyOf}
-use Rattle.theory.specs.SignatureScopes.{IsScoped, IsScopedTelescope}
+use Rattle.theory.specs.SignatureScopes.{IsScoped, IsScopedTelescope, IsConstantNumber}
 use Rattle.core_terms.specs.Bounds.{most_height}
 use Rattle.core_terms.specs.Patterns.{Pat, Bind, Wild, Dot, Con, Absurd, Pats, nil, cons}
 use Rattle.core_terms.specs.Clauses as clause
-use Rattle.core_sig.specs.Raw.{RawFamily}
+use Rattle.core_sig.specs.Raw.{RawFamily, RawMember, MutualRaw}
 use Rattle.resolve.specs.Functions.{Function, product_count}
 
 -- a term that is scoped over n variables and at most 2,000 high
@@ -22,6 +22,22 @@ pub record IsResolvedFamily (S T : Signature) (raw : RawFamily) : Type 0 where
   pub low : All (λ t. height t ≤ most_height) raw.parameters
   pub type : IsResolved S (length raw.parameters) raw.type
   pub constructors : All (λ c. IsResolved T (length raw.parameters) c.type) raw.constructors
+
+-- T has a constant for each member behind the entries of S
+abbrev pub HasMemberConstants : Signature → Signature → MutualRaw → Type 0
+HasMemberConstants S T raw = (k : ℕ) → k < length raw.members → IsConstantNumber T (length S.entries + k)
+
+-- a member for the end of S, behind p parameters: its constructors are scoped over T
+pub record IsResolvedMember (S T : Signature) (p : ℕ) (m : RawMember) : Type 0 where
+  pub type : IsResolved S p m.type
+  pub constructors : All (λ c. IsResolved T p c.type) m.constructors
+
+-- Families that refer to each other for the end of S: their constructors are scoped over the signature T, which has the members' constants
+-- too.
+pub record IsResolvedMutual (S T : Signature) (raw : MutualRaw) : Type 0 where
+  pub parameters : IsScopedTelescope S 0 raw.parameters
+  pub low : All (λ t. height t ≤ most_height) raw.parameters
+  pub members : All (IsResolvedMember S T (length raw.parameters)) raw.members
 
 abbrev pub count : Pats → ℕ
 count nil = 0

@@ -74,7 +74,7 @@ fn family<'a>(
 }
 
 /// The types of the parameters, whose names are added to those before them.
-fn parameters(
+pub(crate) fn parameters(
     alloc: Global,
     known: &Symbols,
     params: &[SurfParam],
@@ -93,14 +93,15 @@ fn parameters(
 }
 
 /// The constructors, whose names are added to those that are declared before them.
-fn constructors(
+pub(crate) fn constructors(
     alloc: Global,
     known: &Symbols,
     cons: &[SurfCon],
     scope: &Scope,
     declared: &mut NameSet,
 ) -> Result<Items<RawCon>, ResolveStop>
-    ensures { Gives (map raw_constructor_of) result (spec.constructors known.now.sig.now (known_of known.now) (names_of scope.now) declared.old (map con_of cons.now)) }
+    ensures constructors { Gives (map raw_constructor_of) result (spec.constructors known.now.sig.now (known_of known.now) (names_of scope.now) declared.old (map con_of cons.now)) }
+    ensures names { OnOk result (declared.new ≡ declared.old ++ spec.names_of (map con_of cons.now)) }
 {
     let mut raw = Items::new(alloc);
     for con in cons {

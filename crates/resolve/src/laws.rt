@@ -1,5 +1,5 @@
 //! Laws of resolution.
-ghost use Rattle.resolve.specs.Laws.{TermsResolve, FamiliesResolve, FunctionsResolve};
+ghost use Rattle.resolve.specs.Laws.{TermsResolve, FamiliesResolve, FunctionsResolve, MutualFamiliesResolve};
 
 /// A resolved term is scoped and low.
 pub fn terms_resolve()
@@ -15,4 +15,9 @@ pub fn families_resolve()
 /// says, count their variables, and give each constructor all its arguments.
 pub fn functions_resolve()
     ensures { FunctionsResolve }
+{}
+
+/// Resolved families that refer to each other are scoped, their constructors over a signature with a constant for each member.
+pub fn mutual_families_resolve()
+    ensures { MutualFamiliesResolve }
 {}
