@@ -17,7 +17,7 @@ use Rattle.tree_translation.proofs.Drafting.{AreHelpers, AreEntries, entries-are
 use Rattle.tree_translation.proofs.EntryNames.{made-name, motive-made, step-made, helper-made}
 use Rattle.tree_translation.proofs.NewNames.{named-among}
 use Rattle.entry_laws.proofs.OnlyConstants.{Each, each-append, each-weaker}
-use Rattle.entry_laws.proofs.OnlyEntries.{own_node, step_candidates, helper_candidates, function_candidates, motive-names, step-names, helper-names, function-names, helper-is}
+use Rattle.entry_laws.proofs.OnlyEntries.{own_node, step_candidates, helper_candidates, function_candidates, motive-names, step-names, helper-names, function-names, helper-is, is-based}
 use Rattle.entry_laws.proofs.TableNames.{HasNames}
 
 -- ---- names that are known
@@ -26,13 +26,13 @@ use Rattle.entry_laws.proofs.TableNames.{HasNames}
 abbrev pub IsKnown : (List ℕ → Type 0) → (known : List (List ℕ)) → List ℕ → Type 0
 IsKnown G known name = G name ⊎ IsAmong name known
 
-known-generated : (G : List ℕ → Type 0) (known names : List (List ℕ)) → Each G names → Each (IsKnown G known) names
+pub known-generated : (G : List ℕ → Type 0) (known names : List (List ℕ)) → Each G names → Each (IsKnown G known) names
 known-generated G known names all = each-weaker names (λ name h. inl h) all
 
-among-here : (name : List ℕ) (names : List (List ℕ)) → IsAmong name (name ∷ names)
+pub among-here : (name : List ℕ) (names : List (List ℕ)) → IsAmong name (name ∷ names)
 among-here name names = (0, name, omega arith, refl, refl)
 
-among-later : (other name : List ℕ) (names : List (List ℕ)) → IsAmong name names → IsAmong name (other ∷ names)
+pub among-later : (other name : List ℕ) (names : List (List ℕ)) → IsAmong name names → IsAmong name (other ∷ names)
 among-later other name names (k, x, within, at, e) = (suc k, x, omega arith, at, e)
 
 among-right : (xs ys : List (List ℕ)) (name : List ℕ) → IsAmong name ys → IsAmong name (xs ++ ys)
@@ -74,7 +74,7 @@ among-each P (y ∷ names) name (Each.more h rest) (zero, x, within, at, e) = su
 among-each P (y ∷ names) name (Each.more h rest) (suc k, x, within, at, e) = among-each P names name rest (k, x, omega arith, at, e)
 
 -- the names of a draft are known, where its candidates are
-names-known : (G : List ℕ → Type 0) (known candidates : List (List ℕ)) (d : Draft) → HasNames candidates d → Each (IsKnown G known) candidates → Each (IsKnown G known) d.names
+pub names-known : (G : List ℕ → Type 0) (known candidates : List (List ℕ)) (d : Draft) → HasNames candidates d → Each (IsKnown G known) candidates → Each (IsKnown G known) d.names
 names-known G known candidates d h all =
     each-weaker d.names (λ name is. among-each (IsKnown G known) candidates name all (named-among candidates name is)) h.among
 
@@ -184,7 +184,7 @@ module _ (G : List ℕ → Type 0) (S : Signature) (plan : Plan) (planned : IsPl
       (known-generated G known _ (made.own is))))
       names.differ Grows.none)
   entries-grow (Some r) all is (AreEntries.recursive {motive = motive} {step = step} {f = d} {helpers = helpers} first are second third) =
-      let motive_names = motive-names S plan r motive planned first in
+      let motive_names = motive-names S plan r motive (is-based S plan planned) first in
       let step_names = step-names S plan planned r step is second in
       let names = function-names S plan planned (Some r) d is third in
       let motive_is = made-name (motive_name plan.name) plan.base motive (motive-made plan r motive first) in

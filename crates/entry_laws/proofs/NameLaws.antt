@@ -20,7 +20,7 @@ use Rattle.entry_laws.proofs.GrowingDrafts.{CanBeMade, Grows, IsKnown, drafts-gr
 -- ---- generated names
 
 mutual
-  tree-generated : (S : Signature) (L : ℕ) (t : Tree) (node : Node) → Each (IsGenerated S) (tree_names S L t node)
+  pub tree-generated : (S : Signature) (L : ℕ) (t : Tree) (node : Node) → Each (IsGenerated S) (tree_names S L t node)
   tree-generated S L (tree.Leaf clause context goal substitution terms binds) node = Each.none
   tree-generated S L (tree.Split context x n type branches) node =
       let y = variable_in node x in
@@ -57,7 +57,7 @@ names_differ S plan drafts planned e =
     all-each (λ d. AllPairs (λ one other. one ≢ other) d.names) drafts
     (grows-differ (IsGenerated S) [] drafts (drafts-grow (IsGenerated S) S plan planned (all-generated S plan) drafts e))
 
-among-any : (name : List ℕ) (before : List Draft) → IsAmong name (map name_of before) → Any (λ e. name_of e ≡ name) before
+pub among-any : (name : List ℕ) (before : List Draft) → IsAmong name (map name_of before) → Any (λ e. name_of e ≡ name) before
 among-any name [] (k, x, within, at, e) = absurd (omega arith)
 among-any name (d ∷ before) (zero, x, within, at, e) = (0, d, omega arith, refl, at ∙ e)
 among-any name (d ∷ before) (suc k, x, within, at, e) =

@@ -22,21 +22,22 @@ use Rattle.tree_translation.specs.structural_rec.Positions.{admission}
 use Rattle.tree_translation.specs.structural_rec.Uses.{Use}
 use Rattle.tele_eq.specs.Items.{each_position}
 use Rattle.tele_eq.specs.Levels.{place_in}
+use Rattle.unification.specs.ScopedStates.{IsReady}
 use Rattle.unification.specs.Solving.{reordered}
 use Rattle.tree_translation.specs.Naming.{Naming, number_in, with_names, below_name, rec_name, motive_name, step_name, helper_name}
 use Rattle.tree_translation.specs.Splits.{Node}
 use Rattle.tree_translation.specs.Plans.{Plan, Part, own_part}
-use Rattle.tree_translation.specs.Recursion.{Recursion, recursion_at, recursion_of, first_positions, order_of, remaining_positions, ordered_telescope, ordered_term, terms_at, parameters_at, motive_at, scrutinee_at, below_type}
+use Rattle.tree_translation.specs.Recursion.{NamedRecursion, Recursion, recursion_at, recursion_of, recursions_in, first_positions, order_of, remaining_positions, ordered_telescope, ordered_term, terms_at, parameters_at, motive_at, scrutinee_at, below_type, below_with}
 use Rattle.tree_translation.specs.TreeTerms.{tree_names}
 use Rattle.tree_translation.specs.RightSides.{Place}
-use Rattle.tree_translation.specs.Entries.{helper_count, helper_names, side_names, part_term, ordered_variables, with_below, motive_entry, step_telescope, step_goal, step_node, step_entry, helper_node, helper_entry, function_by_recursion, function_entry}
+use Rattle.tree_translation.specs.Entries.{helper_count, helper_names, side_names, part_term, term_with, ordered_variables, with_below, motive_entry, step_telescope, step_goal, step_node, step_entry, helper_node, helper_entry, function_by_recursion, function_entry}
 use Rattle.tree_translation.specs.Conditions.{IsSide, IsPartOf, IsPlanned}
 use Rattle.entry_laws.proofs.OnlyConstants.{Each, each-append, each-left, each-right, each-take, each-drop, HasOnly, only-lift, only-products, only-functions, only-applied, only-variables}
 use Rattle.entry_laws.proofs.OnlyEquations.{only-put, only-each_position}
 use Rattle.entry_laws.proofs.OnlyFamilies.{CoversConstants, only-draft, only-scoped, only-all_scoped, only-telescope, FamiliesOnly, only-families, if-there}
 use Rattle.entry_laws.proofs.OnlyStates.{OptionOnly, NodeOnly, only-new_context}
 use Rattle.entry_laws.proofs.OnlyRuns.{NumbersHave}
-use Rattle.entry_laws.proofs.OnlyLeaves.{RecursionOnly, only-terms_at, only-parameters_at, only-motive_at, only-below_type, PlaceOnly, IsCalled, called-entry, called-function, called-helper, LeafOnly, only-leaf_term}
+use Rattle.entry_laws.proofs.OnlyLeaves.{NamedOnly, RecursionOnly, only-named, only-terms_at, only-parameters_at, only-motive_at, only-below_type, PlaceOnly, IsCalled, called-entry, called-function, called-helper, LeafOnly, only-leaf_term}
 use Rattle.entry_laws.proofs.OnlyTrees.{only-tree_term}
 use Rattle.entry_laws.proofs.SameNames.{blank, blanks, blank-applied, IsLikeNode, tree-names}
 use Rattle.entry_laws.proofs.TableNames.{IsInTable, candidates-numbered, HasNames, draft-names}
@@ -151,61 +152,78 @@ helpers-there Q number plan (Some r) at (Each.more below (Each.more motive all))
 
 -- ---- the term of a part
 
+-- at a node whose hidden variables are the below values of recursions
+pub only-term_with : {Q : ℕ → Type 0} (S : Signature) (number : Naming) (plan : Plan) (recursions : List NamedRecursion) (at : ℕ) (part : Part) (order : List ℕ) (node : Node)
+    → IsReady S → plan.base ≡ length S.entries → IsPart S plan at part → CoversConstants Q S → Each (NamedOnly Q number plan) recursions → NumbersHave Q number (helper_names plan at)
+    → NumbersHave Q number (tree_names S part.level part.tree node) → NodeOnly Q node → HasOnly Q (term_with S plan recursions part order node number)
+only-term_with {Q} S number plan recursions at part order node ready base p covers named helpers named_tree hn =
+    let leaf : LeafOnly Q number plan recursions part = record {
+      recursions = named;
+      sides = λ i l h. part-sides S number plan at part i l p base covers helpers h;
+    } in
+    only-tree_term {R = λ c. IsConstantNumber S c} (record { signature = S; number = number; plan = plan; recursions = recursions; part = part; order = order }) part.tree node
+    (record {
+      families = only-families S ready.scoped covers;
+      covers = covers;
+      entries = λ c is. is;
+      leaves = λ n hidden i substitution terms binds hs ht hb.
+          only-leaf_term number plan recursions part order n hidden i substitution terms binds leaf
+          (λ c is. let low = slice_get_within S.entries c (Definition is.0 is.1 is.2) is.3 in (omega (arith, base), covers c is)) hs ht hb;
+    })
+    p.is.tree_scoped named_tree hn
+
 only-part_term : {Q : ℕ → Type 0} (S : Signature) (number : Naming) (plan : Plan) (o : Option Recursion) (at : ℕ) (part : Part) (order : List ℕ) (node : Node)
     → IsPlanned S plan → recursion_of S plan ≡ o → IsPart S plan at part → CoversConstants Q S → NumbersHave Q number (side_names plan o at)
     → NumbersHave Q number (tree_names S part.level part.tree node) → NodeOnly Q node → HasOnly Q (part_term S plan o part order node number)
 only-part_term {Q} S number plan o at part order node planned e p covers named named_tree hn =
-    let families = only-families S planned.ready.scoped covers in
-    let leaf : LeafOnly Q number plan o part = record {
-      recursion = recursion-there S number plan o at families e named;
-      sides = λ i l h. part-sides S number plan at part i l p planned.base covers (helpers-there Q number plan o at named) h;
-    } in
-    only-tree_term {R = λ c. IsConstantNumber S c} (record { signature = S; number = number; plan = plan; recursion = o; part = part; order = order }) part.tree node
-    (record {
-      families = families;
-      covers = covers;
-      entries = λ c is. is;
-      leaves = λ n hidden i substitution terms binds hs ht hb.
-          only-leaf_term number plan o part order n hidden i substitution terms binds leaf
-          (λ c is. let low = slice_get_within S.entries c (Definition is.0 is.1 is.2) is.3 in (omega (arith, planned.base), covers c is)) hs ht hb;
-    })
-    p.is.tree_scoped named_tree hn
+    only-term_with S number plan (recursions_in plan o) at part order node planned.ready planned.base p covers
+    (only-named number plan o (recursion-there S number plan o at (only-families S planned.ready.scoped covers) e named))
+    (helpers-there Q number plan o at named) named_tree hn
 
 -- ---- telescopes
 
-only-ordered_telescope : {Q : ℕ → Type 0} (tele : Telescope) (order : List ℕ) → Each (HasOnly Q) tele → Each (HasOnly Q) (ordered_telescope tele order)
+pub only-ordered_telescope : {Q : ℕ → Type 0} (tele : Telescope) (order : List ℕ) → Each (HasOnly Q) tele → Each (HasOnly Q) (ordered_telescope tele order)
 only-ordered_telescope tele order all = only-new_context tele (reordered order) 0 order all (λ d j. HasOnly.of_var)
 
-only-ordered_term : {Q : ℕ → Type 0} (count : ℕ) (order : List ℕ) (t : Term) → HasOnly Q t → HasOnly Q (ordered_term count order t)
+pub only-ordered_term : {Q : ℕ → Type 0} (count : ℕ) (order : List ℕ) (t : Term) → HasOnly Q t → HasOnly Q (ordered_term count order t)
 only-ordered_term count order t h = only-put (reordered order) count count t (λ d j. HasOnly.of_var) h
 
 only-lift_telescope : {Q : ℕ → Type 0} (tele : Telescope) (by from : ℕ) → Each (HasOnly Q) tele → Each (HasOnly Q) (lift_telescope tele by from)
 only-lift_telescope [] by from Each.none = Each.none
 only-lift_telescope (a ∷ tele) by from (Each.more h all) = Each.more (only-lift a by from h) (only-lift_telescope tele by (from + 1) all)
 
-only-with_below : {Q : ℕ → Type 0} (at : ℕ) (below : Term) (tele : Telescope) → HasOnly Q below → Each (HasOnly Q) tele → Each (HasOnly Q) (with_below at below tele)
+pub only-with_below : {Q : ℕ → Type 0} (at : ℕ) (below : Term) (tele : Telescope) → HasOnly Q below → Each (HasOnly Q) tele → Each (HasOnly Q) (with_below at below tele)
 only-with_below at below tele h all =
     each-append (take at tele) _ (each-take at tele all) (Each.more h (only-lift_telescope (drop at tele) 1 0 (each-drop at tele all)))
 
-only-ordered_variables : {Q : ℕ → Type 0} (order : List ℕ) (depth : ℕ) → Each (HasOnly Q) (ordered_variables order depth)
+pub only-ordered_variables : {Q : ℕ → Type 0} (order : List ℕ) (depth : ℕ) → Each (HasOnly Q) (ordered_variables order depth)
 only-ordered_variables order depth = only-each_position (λ i. variable depth (place_in order i)) 0 (length order) (λ i. HasOnly.of_var)
 
 -- ---- nodes that differ in the below value's type
 
-blank-below_type : (number other : Naming) (plan : Plan) (r : Recursion) (terms : List Term) → blank (below_type number plan r terms) ≡ blank (below_type other plan r terms)
-blank-below_type number other plan r terms =
+pub blank-below_with : (number other : Naming) (plan : Plan) (r : Recursion) (one two : Term) (terms : List Term) → blank one ≡ blank two
+    → blank (below_with number plan r one terms) ≡ blank (below_with other plan r two terms)
+blank-below_with number other plan r one two terms same =
     let parameters = parameters_at (own_part plan).tele r terms in
-    let fixed = terms_at r.admission.fixed terms in
     let rest = scrutinee_at r terms in
-    let one = motive_at number plan r terms in
-    let two = motive_at other plan r terms in
     blank-applied (Const (number (below_name r.family plan.level))) (parameters ++ one ∷ rest)
     ∙ (ap (applied (Const 0))
     (map-append blank parameters (one ∷ rest)
-    ∙ (ap (λ motive. blanks parameters ++ motive ∷ blanks rest)
-    (blank-applied (Const (number (motive_name plan.name))) fixed ∙ sym (blank-applied (Const (other (motive_name plan.name))) fixed))
-    ∙ sym (map-append blank parameters (two ∷ rest))))
+    ∙ (ap (λ motive. blanks parameters ++ motive ∷ blanks rest) same ∙ sym (map-append blank parameters (two ∷ rest))))
     ∙ sym (blank-applied (Const (other (below_name r.family plan.level))) (parameters ++ two ∷ rest)))
+
+pub blank-below_type : (number other : Naming) (plan : Plan) (r : Recursion) (terms : List Term) → blank (below_type number plan r terms) ≡ blank (below_type other plan r terms)
+blank-below_type number other plan r terms =
+    let fixed = terms_at r.admission.fixed terms in
+    blank-below_with number other plan r (motive_at number plan r terms) (motive_at other plan r terms) terms
+    (blank-applied (Const (number (motive_name plan.name))) fixed ∙ sym (blank-applied (Const (other (motive_name plan.name))) fixed))
+
+-- one type among others that stay
+pub blanks-with_below : (at : ℕ) (below other : Term) (tele : Telescope) → blank below ≡ blank other → blanks (with_below at below tele) ≡ blanks (with_below at other tele)
+blanks-with_below at below other tele same =
+    map-append blank (take at tele) (below ∷ lift_telescope (drop at tele) 1 0)
+    ∙ (ap (λ b. blanks (take at tele) ++ b ∷ blanks (lift_telescope (drop at tele) 1 0)) same
+    ∙ sym (map-append blank (take at tele) (other ∷ lift_telescope (drop at tele) 1 0)))
 
 pub step-like : (plan : Plan) (r : Recursion) (number other : Naming) → IsLikeNode (step_node plan r number) (step_node plan r other)
 step-like plan r number other =
@@ -215,9 +233,8 @@ step-like plan r number other =
     let first = length (first_positions r) in
     record {
       context =
-          map-append blank (take first tele) (below_type number plan r (ordered_variables order first) ∷ lift_telescope (drop first tele) 1 0)
-          ∙ (ap (λ below. blanks (take first tele) ++ below ∷ blanks (lift_telescope (drop first tele) 1 0)) (blank-below_type number other plan r (ordered_variables order first))
-          ∙ sym (map-append blank (take first tele) (below_type other plan r (ordered_variables order first) ∷ lift_telescope (drop first tele) 1 0)));
+          blanks-with_below first (below_type number plan r (ordered_variables order first)) (below_type other plan r (ordered_variables order first)) tele
+          (blank-below_type number other plan r (ordered_variables order first));
       hidden = refl;
     }
 
@@ -247,36 +264,46 @@ abbrev pub function_candidates : Signature → Plan → Option Recursion → Lis
 function_candidates S plan None = side_names plan None 0 ++ tree_names S (own_part plan).level (own_part plan).tree (own_node plan)
 function_candidates S plan (Some r) = rec_name r.family plan.level ∷ motive_name plan.name ∷ step_name plan.name ∷ []
 
+-- the function's own part over a signature that is ready, and its written type
+pub record IsBased (S : Signature) (plan : Plan) : Type 0 where
+  pub ready : IsReady S
+  pub base : plan.base ≡ length S.entries
+  pub type : plan.type ≡ products (own_part plan).tele (own_part plan).goal
+  pub own : IsPart S plan 0 (own_part plan)
+
 pub own-is : (S : Signature) (plan : Plan) → IsPlanned S plan → IsPart S plan 0 (own_part plan)
 own-is S plan planned = record { uses = planned.uses; context = _; goal = _; terms = _; is = planned.own }
+
+pub is-based : (S : Signature) (plan : Plan) → IsPlanned S plan → IsBased S plan
+is-based S plan planned = record { ready = planned.ready; base = planned.base; type = planned.type; own = own-is S plan planned }
 
 pub helper-is : (S : Signature) (plan : Plan) (k : ℕ) (part : Part) → IsPlanned S plan → slice_get plan.parts (k + 1) ≡ Some part → IsPart S plan (k + 1) part
 helper-is S plan k part planned at = record { uses = planned.uses; context = _; goal = _; terms = _; is = planned.helpers k part at }
 
-pub motive-names : (S : Signature) (plan : Plan) (r : Recursion) (d : Draft) → IsPlanned S plan → motive_entry plan r ≡ Ok d → HasNames [] d
-motive-names S plan r d planned e =
+pub motive-names : (S : Signature) (plan : Plan) (r : Recursion) (d : Draft) → IsBased S plan → motive_entry plan r ≡ Ok d → HasNames [] d
+motive-names S plan r d based e =
     let part = own_part plan in
     let count = length part.tele in
     let order = order_of count (Some r) in
     let tele = ordered_telescope part.tele order in
     let first = length (first_positions r) in
-    let covers = covers-more S plan.base 0 planned.base in
-    let all = only-ordered_telescope part.tele order (only-telescope S 0 part.tele covers planned.own.context_scoped) in
-    let goal = only-ordered_term count order part.goal (only-scoped S count part.goal covers planned.own.goal_scoped) in
+    let covers = covers-more S plan.base 0 based.base in
+    let all = only-ordered_telescope part.tele order (only-telescope S 0 part.tele covers based.own.is.context_scoped) in
+    let goal = only-ordered_term count order part.goal (only-scoped S count part.goal covers based.own.is.goal_scoped) in
     draft-names (motive_name plan.name) plan.base [] (λ number. products (take first tele) (Sort plan.level))
     (λ number. functions (take first tele) (products (drop first tele) (ordered_term count order part.goal))) d e
     (only-products (take first tele) (Sort plan.level) (each-take first tele all) HasOnly.of_sort)
     (only-functions (take first tele) _ (each-take first tele all) (only-products (drop first tele) (ordered_term count order part.goal) (each-drop first tele all) goal))
 
 -- terms over a table of candidates
-module _ (S : Signature) (plan : Plan) (planned : IsPlanned S plan) where
-  own-tele : {Q : ℕ → Type 0} → CoversConstants Q S → Each (HasOnly Q) (own_part plan).tele
-  own-tele covers = only-telescope S 0 (own_part plan).tele covers planned.own.context_scoped
+module _ (S : Signature) (plan : Plan) (based : IsBased S plan) where
+  pub own-tele : {Q : ℕ → Type 0} → CoversConstants Q S → Each (HasOnly Q) (own_part plan).tele
+  own-tele covers = only-telescope S 0 (own_part plan).tele covers based.own.is.context_scoped
 
-  own-goal : {Q : ℕ → Type 0} → CoversConstants Q S → HasOnly Q (own_part plan).goal
-  own-goal covers = only-scoped S (length (own_part plan).tele) (own_part plan).goal covers planned.own.goal_scoped
+  pub own-goal : {Q : ℕ → Type 0} → CoversConstants Q S → HasOnly Q (own_part plan).goal
+  own-goal covers = only-scoped S (length (own_part plan).tele) (own_part plan).goal covers based.own.is.goal_scoped
 
-  only-step_node : {Q : ℕ → Type 0} (r : Recursion) (number : Naming) → CoversConstants Q S → RecursionOnly Q number plan r → NodeOnly Q (step_node plan r number)
+  pub only-step_node : {Q : ℕ → Type 0} (r : Recursion) (number : Naming) → CoversConstants Q S → RecursionOnly Q number plan r → NodeOnly Q (step_node plan r number)
   only-step_node r number covers h =
       let part = own_part plan in
       let count = length part.tele in
@@ -290,6 +317,36 @@ module _ (S : Signature) (plan : Plan) (planned : IsPlanned S plan) where
         goal = only-lift (ordered_term count order part.goal) 1 (count - first) (only-ordered_term count order part.goal (own-goal covers));
       }
 
+  only-type : {Q : ℕ → Type 0} → CoversConstants Q S → HasOnly Q plan.type
+  only-type {Q} covers = subst (HasOnly Q) (sym based.type) (only-products (own_part plan).tele (own_part plan).goal (own-tele covers) (own-goal covers))
+
+  only-by_recursion : {Q : ℕ → Type 0} (r : Recursion) (number : Naming) → CoversConstants Q S → NumbersHave Q number (function_candidates S plan (Some r))
+      → HasOnly Q (function_by_recursion plan r number)
+  only-by_recursion r number covers (Each.more rec (Each.more motive (Each.more step all))) =
+      let tele = (own_part plan).tele in
+      let count = length tele in
+      let terms = variables count in
+      only-functions tele _ (own-tele covers)
+      (only-applied (Const (number (rec_name r.family plan.level))) _ (HasOnly.of_const rec)
+      (each-append (parameters_at tele r terms) _ (only-parameters_at tele r terms (own-tele covers) (only-variables count))
+      (Each.more (only-motive_at number plan r terms motive (only-variables count))
+      (Each.more
+      (only-applied (Const (number (step_name plan.name))) (terms_at r.admission.fixed terms) (HasOnly.of_const step) (only-terms_at r.admission.fixed terms (only-variables count)))
+      (each-append (scrutinee_at r terms) (terms_at (remaining_positions count r) terms) (only-terms_at _ terms (only-variables count))
+      (only-terms_at (remaining_positions count r) terms (only-variables count)))))))
+
+  pub recursive-names : (r : Recursion) (d : Draft) → function_entry S plan (Some r) ≡ Ok d → HasNames (function_candidates S plan (Some r)) d
+  recursive-names r d e =
+      let candidates = function_candidates S plan (Some r) in
+      let table = with_names [] candidates in
+      let number = number_in plan.base table in
+      let covers = covers-more S plan.base (length table) based.base in
+      draft-names plan.name plan.base candidates (λ number. plan.type) (function_by_recursion plan r) d e (only-type covers) (only-by_recursion r number covers (candidates-numbered plan.base candidates))
+
+module _ (S : Signature) (plan : Plan) (planned : IsPlanned S plan) where
+  based : IsBased S plan
+  based = is-based S plan planned
+
   pub step-names : (r : Recursion) (d : Draft) → recursion_of S plan ≡ Some r → step_entry S plan r ≡ Ok d → HasNames (step_candidates S plan r) d
   step-names r d is e =
       let part = own_part plan in
@@ -301,7 +358,7 @@ module _ (S : Signature) (plan : Plan) (planned : IsPlanned S plan) where
       let named = candidates-numbered plan.base candidates in
       let sides = each-left (side_names plan (Some r) 0) _ named in
       let recursion = recursion-there S number plan (Some r) 0 (only-families S planned.ready.scoped covers) is sides in
-      let node = only-step_node r number covers recursion in
+      let node = only-step_node S plan based r number covers recursion in
       let names = each-right (side_names plan (Some r) 0) (tree_names S part.level part.tree (step_node plan r (λ name. plan.base))) named in
       draft-names (step_name plan.name) plan.base candidates (λ number. products (step_telescope plan r number) (step_goal plan r))
       (λ number. functions (step_telescope plan r number) (part_term S plan (Some r) part order (step_node plan r number) number)) d e
@@ -321,7 +378,7 @@ module _ (S : Signature) (plan : Plan) (planned : IsPlanned S plan) where
   only-helper_node (Some r) k part number covers h p = record {
     context =
         each-append part.tele (below_type number plan r part.terms ∷ []) (only-telescope S 0 part.tele covers p.is.context_scoped)
-        (Each.more (only-below_type number plan r part.terms h (own-tele covers) (only-all_scoped S (length part.tele) part.terms covers p.is.terms_scoped)) Each.none);
+        (Each.more (only-below_type number plan r part.terms h (own-tele S plan based covers) (only-all_scoped S (length part.tele) part.terms covers p.is.terms_scoped)) Each.none);
     goal = only-lift part.goal 1 0 (only-scoped S (length part.tele) part.goal covers p.is.goal_scoped);
   }
 
@@ -347,24 +404,6 @@ module _ (S : Signature) (plan : Plan) (planned : IsPlanned S plan) where
       (tree-names S part.level part.tree (helper_node plan o part (λ name. plan.base)) (helper_node plan o part number) (helper-like plan o part (λ name. plan.base) number)) names)
       node))
 
-  only-type : {Q : ℕ → Type 0} → CoversConstants Q S → HasOnly Q plan.type
-  only-type {Q} covers = subst (HasOnly Q) (sym planned.type) (only-products (own_part plan).tele (own_part plan).goal (own-tele covers) (own-goal covers))
-
-  only-by_recursion : {Q : ℕ → Type 0} (r : Recursion) (number : Naming) → CoversConstants Q S → NumbersHave Q number (function_candidates S plan (Some r))
-      → HasOnly Q (function_by_recursion plan r number)
-  only-by_recursion r number covers (Each.more rec (Each.more motive (Each.more step all))) =
-      let tele = (own_part plan).tele in
-      let count = length tele in
-      let terms = variables count in
-      only-functions tele _ (own-tele covers)
-      (only-applied (Const (number (rec_name r.family plan.level))) _ (HasOnly.of_const rec)
-      (each-append (parameters_at tele r terms) _ (only-parameters_at tele r terms (own-tele covers) (only-variables count))
-      (Each.more (only-motive_at number plan r terms motive (only-variables count))
-      (Each.more
-      (only-applied (Const (number (step_name plan.name))) (terms_at r.admission.fixed terms) (HasOnly.of_const step) (only-terms_at r.admission.fixed terms (only-variables count)))
-      (each-append (scrutinee_at r terms) (terms_at (remaining_positions count r) terms) (only-terms_at _ terms (only-variables count))
-      (only-terms_at (remaining_positions count r) terms (only-variables count)))))))
-
   pub function-names : (o : Option Recursion) (d : Draft) → recursion_of S plan ≡ o → function_entry S plan o ≡ Ok d → HasNames (function_candidates S plan o) d
   function-names None d is e =
       let part = own_part plan in
@@ -374,14 +413,9 @@ module _ (S : Signature) (plan : Plan) (planned : IsPlanned S plan) where
       let covers = covers-more S plan.base (length table) planned.base in
       let named = candidates-numbered plan.base candidates in
       draft-names plan.name plan.base candidates (λ number. plan.type)
-      (λ number. functions part.tele (part_term S plan None part (order_of (length part.tele) None) (own_node plan) number)) d e (only-type covers)
-      (only-functions part.tele _ (own-tele covers)
+      (λ number. functions part.tele (part_term S plan None part (order_of (length part.tele) None) (own_node plan) number)) d e (only-type S plan based covers)
+      (only-functions part.tele _ (own-tele S plan based covers)
       (only-part_term S number plan None 0 part (order_of (length part.tele) None) (own_node plan) planned is (own-is S plan planned) covers
       (each-left (side_names plan None 0) _ named) (each-right (side_names plan None 0) (tree_names S part.level part.tree (own_node plan)) named)
-      (record { context = own-tele covers; goal = own-goal covers })))
-  function-names (Some r) d is e =
-      let candidates = function_candidates S plan (Some r) in
-      let table = with_names [] candidates in
-      let number = number_in plan.base table in
-      let covers = covers-more S plan.base (length table) planned.base in
-      draft-names plan.name plan.base candidates (λ number. plan.type) (function_by_recursion plan r) d e (only-type covers) (only-by_recursion r number covers (candidates-numbered plan.base candidates))
+      (record { context = own-tele S plan based covers; goal = own-goal S plan based covers })))
+  function-names (Some r) d is e = recursive-names S plan based r d e

@@ -146,7 +146,7 @@ pub record TreeOnly (Q R : ℕ → Type 0) (w : Translation) : Type 0 where
   pub covers : CoversConstants Q w.signature
   pub entries : CoversConstants R w.signature
   pub leaves : (n : ℕ) (hidden : List ℕ) (clause : ℕ) (substitution terms binds : List Term) → Each (HasOnly R) substitution → Each (HasOnly R) terms → Each (HasOnly R) binds
-      → HasOnly Q (leaf_term w.number w.plan w.recursion w.part w.order n hidden clause substitution terms binds)
+      → HasOnly Q (leaf_term w.number w.plan w.recursions w.part w.order n hidden clause substitution terms binds)
 
 mutual
   pub only-tree_term : {Q R : ℕ → Type 0} (w : Translation) (t : Tree) (node : Node) → TreeOnly Q R w → IsScopedTree w.signature t

@@ -18,7 +18,7 @@ use Rattle.run_terms.proofs.MadeTerms.{if-both}
 use Rattle.split_terms.specs.Laws.{StepsAreThese}
 use Rattle.leaf_terms.specs.RecursionMade.{recursion_made}
 use Rattle.leaf_terms.proofs.RecursionFound.{recursion-found}
-use Rattle.function_entries.specs.CodeEntries.{body_made, entries_made, first_entries, helper_made, helper_with, helpers_made, last_entries, motive_made, node_type, old_order, own_order, plain_entries, plain_made, plain_with, recursive_entries, recursive_made, step_made, step_node, step_with, table_made, translation_with, tree_entry_made, with_draft}
+use Rattle.function_entries.specs.CodeEntries.{body_made, entries_made, first_entries, helper_made, helper_with, helpers_made, last_entries, motive_made, node_type, old_order, own_order, plain_entries, plain_made, plain_with, recursive_entries, recursive_made, step_made, step_node, step_with, table_from, table_made, translation_with, tree_entry_made, with_draft}
 use Rattle.leaf_terms.specs.CodeNumbering.{numbered}
 use Rattle.function_entries.specs.CodeTrees.{tree_made, tree_names_made}
 use Rattle.function_entries.specs.Laws.{TranslateIsEntries}
@@ -35,16 +35,22 @@ base-number base = fun_ext (λ name. omega arith)
 abbrev table-of : Signature → Plan → Option Recursion → (at : ℕ) → Part → Node → List (List ℕ)
 table-of S plan r at part node = with_names [] (side_names plan r at ++ tree_names S part.level part.tree node)
 
+-- of these names and those of a tree
+pub table-from-is : (S : Signature) → StepsAreThese S → (base : ℕ) (names : List (List ℕ)) (part : Part) (node : Naming → Node) (table : List (List ℕ))
+    → table_from S names part (node (number_in base [])) ≡ Ok table
+    → table ≡ with_names [] (names ++ tree_names S part.level part.tree (node (λ name. base)))
+table-from-is S these base names part node table e =
+    let start = node (number_in base []) in
+    let both = if-both (tree_names_made S part.level part.tree start names) (λ names. Ok (with_names [] names)) table e in
+    sym (ok_is both.2)
+    ∙ ap (with_names []) (tree-names-are S these part.level part.tree start names both.0 both.1)
+    ∙ ap (λ number. with_names [] (names ++ tree_names S part.level part.tree (node number))) (base-number base)
+
 table-is : (S : Signature) → StepsAreThese S → (plan : Plan) (r : Option Recursion) (at : ℕ) (part : Part) (node : Naming → Node) (table : List (List ℕ))
     → table_made S plan r at part (node (number_in plan.base [])) ≡ Ok table → table ≡ table-of S plan r at part (node (λ name. plan.base))
-table-is S these plan r at part node table e =
-    let start = node (number_in plan.base []) in
-    let both = if-both (tree_names_made S part.level part.tree start (side_names plan r at)) (λ names. Ok (with_names [] names)) table e in
-    sym (ok_is both.2)
-    ∙ ap (with_names []) (tree-names-are S these part.level part.tree start (side_names plan r at) both.0 both.1)
-    ∙ ap (λ number. table-of S plan r at part (node number)) (base-number plan.base)
+table-is S these plan r at part node table e = table-from-is S these plan.base (side_names plan r at) part node table e
 
-entry-is : (name : List ℕ) (table : List (List ℕ)) (w : Translation) → StepsAreThese w.signature → (node : Node) (type : Term) (d : Draft)
+pub entry-is : (name : List ℕ) (table : List (List ℕ)) (w : Translation) → StepsAreThese w.signature → (node : Node) (type : Term) (d : Draft)
     → tree_entry_made name table w node type ≡ Ok d
     → numbered name w.plan.base table type (functions node.context (tree_term w w.part.tree node)) ≡ Ok d
 entry-is name table w these node type d e =
@@ -93,7 +99,7 @@ plain-is S these plan d e =
 
 -- ---- lists of entries
 
-more : (first : Result Draft Stop) (others : Result (List Draft) Stop) (d : Draft) (ds : List Draft) → first ≡ Ok d → others ≡ Ok ds
+pub more : (first : Result Draft Stop) (others : Result (List Draft) Stop) (d : Draft) (ds : List Draft) → first ≡ Ok d → others ≡ Ok ds
     → and_more first others ≡ Ok (d ∷ ds)
 more first others d ds e f = ap₂ and_more e f
 

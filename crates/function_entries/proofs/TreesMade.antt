@@ -71,7 +71,7 @@ split-is w these node x type branches made ends t same e =
 mutual
   pub tree-is : TreeIsTerm
   tree-is w these (tree.Leaf clause context goal substitution terms binds) node t e =
-      leaf-is-term w.number w.plan w.recursion w.part w.order (length node.context) node.hidden clause substitution terms binds t e
+      leaf-is-term w.number w.plan w.recursions w.part w.order (length node.context) node.hidden clause substitution terms binds t e
   tree-is w these (tree.Split context x n type branches) node t e =
       split-is w these node x (type_in node type) branches
       (λ m. ends_made w branches node (variable_in node x) m 0 [])

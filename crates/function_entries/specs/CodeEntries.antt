@@ -10,7 +10,7 @@ use Rattle.core_sig.specs.Drafts.{Draft}
 use Rattle.tree_translation.specs.Naming.{Naming, number_in, with_names, rec_name, motive_name, step_name, helper_name}
 use Rattle.tree_translation.specs.Splits.{Node}
 use Rattle.tree_translation.specs.Plans.{Plan, Part, own_part}
-use Rattle.tree_translation.specs.Recursion.{Recursion, first_positions, order_of, remaining_positions, ordered_telescope, ordered_term, terms_at, parameters_at, motive_at, scrutinee_at, below_type}
+use Rattle.tree_translation.specs.Recursion.{Recursion, first_positions, order_of, remaining_positions, ordered_telescope, ordered_term, terms_at, parameters_at, motive_at, NamedRecursion, recursions_in, scrutinee_at, below_type}
 use Rattle.tree_translation.specs.TreeTerms.{Translation}
 use Rattle.tree_translation.specs.Entries.{goal_with_below, helper_node, ordered_variables, side_names, with_below}
 use Rattle.leaf_terms.specs.RecursionMade.{recursion_made}
@@ -46,10 +46,12 @@ motive_made plan own r =
 
 -- ---- entries with a tree
 
--- the names that one may mention
+-- the names that one may mention: these, and those of the tree
+abbrev pub table_from : Signature → (names : List (List ℕ)) → Part → Node → Result (List (List ℕ)) Stop
+table_from S names part node = and_then (tree_names_made S part.level part.tree node names) (λ names. Ok (with_names [] names))
+
 abbrev pub table_made : Signature → Plan → Option Recursion → (at : ℕ) → Part → Node → Result (List (List ℕ)) Stop
-table_made S plan r at part node =
-    and_then (tree_names_made S part.level part.tree node (side_names plan r at)) (λ names. Ok (with_names [] names))
+table_made S plan r at part node = table_from S (side_names plan r at) part node
 
 abbrev pub body_made : Translation → Node → Result Term Stop
 body_made w node = and_then (tree_made w w.part.tree node) (λ t. Ok (functions node.context t))
@@ -62,9 +64,13 @@ tree_entry_made name table w node type = and_then (body_made w node) (λ t. numb
 abbrev pub node_type : Node → Term
 node_type node = products node.context node.goal
 
+-- what the leaves of an entry with a tree are made of
+abbrev pub translation_over : Signature → Plan → List NamedRecursion → Part → (order : List ℕ) → Naming → Translation
+translation_over S plan recursions part order number =
+    record { signature = S; number = number; plan = plan; recursions = recursions; part = part; order = order }
+
 abbrev pub translation_with : Signature → Plan → Option Recursion → Part → (order : List ℕ) → Naming → Translation
-translation_with S plan r part order number =
-    record { signature = S; number = number; plan = plan; recursion = r; part = part; order = order }
+translation_with S plan r part order number = translation_over S plan (recursions_in plan r) part order number
 
 -- ---- the step
 

@@ -33,7 +33,7 @@ next_made S node x number steps (Some m) = node_after S node m x number steps (s
 
 abbrev pub leaf_at : Translation → Node → (clause : ℕ) → (substitution terms binds : List Term) → Result Term Stop
 leaf_at w node clause substitution terms binds =
-    leaf_made w.number w.plan w.recursion w.part w.order (length node.context) node.hidden clause substitution terms binds
+    leaf_made w.number w.plan w.recursions w.part w.order (length node.context) node.hidden clause substitution terms binds
 
 abbrev pub split_at : Translation → Node → (x : ℕ) (type : Term) → Branches → (ends : List Term) → Result Term Stop
 split_at w node x type branches ends =

@@ -10,7 +10,7 @@ ghost use Rattle.leaf_terms.specs.RecursionMeanings.{recursion_of};
 ghost use Rattle.function_entries.specs.CodeEntries as spec;
 
 use crate::helpers::{old_order, plain_node};
-use crate::own_order::type_count;
+use crate::own_part::type_count;
 use crate::tree_entries::{table_of, tree_entry};
 use core_sig::{Draft, Signature};
 use core_terms::{Items, Name, Stop, Tele, Term, applied, copy_name, copy_tele, functions};
@@ -177,7 +177,7 @@ fn plain_with(
         sig,
         naming,
         plan,
-        recursion: None,
+        recursions: &[],
         part: own,
         order: order.as_slice(),
     };

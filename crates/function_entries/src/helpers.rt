@@ -12,11 +12,14 @@ ghost use Rattle.leaf_terms.specs.PlanMeanings.{part_of, parts_of, plan_of};
 ghost use Rattle.leaf_terms.specs.RecursionMeanings.{recursion_of};
 ghost use Rattle.function_entries.specs.CodeEntries as spec;
 
-use crate::own_order::type_count;
+use crate::own_part::type_count;
 use crate::tree_entries::{node_entry, table_of};
 use core_sig::{Draft, Signature};
 use core_terms::{Items, Name, Stop, Tele, copy_tele, copy_whole, next};
-use leaf_terms::{Part, Plan, Recursion, Translation, below_type, helper_name, order_of};
+use leaf_terms::{
+    Part, Plan, Recursion, Translation, below_type, helper_name, motive_name, order_of,
+    recursions_named,
+};
 use run_terms::{Naming, raised};
 use split_terms::Node;
 use std::alloc::Global;
@@ -136,11 +139,13 @@ fn helper_with(
         names: table,
     };
     let order = old_order(alloc, part)?;
+    let motive = motive_name(alloc, &plan.name)?;
+    let recursions = recursions_named(alloc, &motive, r)?;
     let w = Translation {
         sig,
         naming,
         plan,
-        recursion: r,
+        recursions: recursions.as_slice(),
         part,
         order: order.as_slice(),
     };

@@ -6,15 +6,15 @@ ghost use Rattle.leaf_terms.specs.PlanMeanings.{part_of, plan_of};
 ghost use Rattle.leaf_terms.specs.RecursionMeanings.{recursion_of};
 ghost use Rattle.function_entries.specs.CodeEntries as spec;
 
-use crate::own_order::{first_count, own_goal, own_telescope};
-use crate::telescopes::{after_first, with_first};
+use crate::own_part::{first_count, own_goal, own_telescope};
+use crate::telescopes::with_first;
 use core_sig::Draft;
 use core_terms::{Items, Stop, Term, copy_tele, functions, products};
-use leaf_terms::{Part, Plan, Recursion, motive_name, numbered};
+use leaf_terms::{Part, Plan, Recursion, after_first, motive_name, numbered};
 use std::alloc::Global;
 
 /// `(F) -> (is) -> (x) -> Type L`.
-fn motive_type(alloc: Global, level: u8, first: u32, tele: &[Term]) -> Result<Term, Stop>
+pub fn motive_type(alloc: Global, level: u8, first: u32, tele: &[Term]) -> Result<Term, Stop>
     ensures { Gives tree_of result (Ok (spec.motive_type level first (tele_of tele.now))) }
 {
     let tele = with_first(alloc, first, tele, Items::new(alloc))?;
@@ -22,7 +22,7 @@ fn motive_type(alloc: Global, level: u8, first: u32, tele: &[Term]) -> Result<Te
 }
 
 /// `\F is x. (R) -> goal`.
-fn motive_body(alloc: Global, first: u32, tele: &[Term], goal: Term) -> Result<Term, Stop>
+pub fn motive_body(alloc: Global, first: u32, tele: &[Term], goal: Term) -> Result<Term, Stop>
     ensures { Gives tree_of result (Ok (spec.motive_body first (tele_of tele.now) (tree_of goal))) }
 {
     let rest = copy_tele(alloc, after_first(tele, first))?;

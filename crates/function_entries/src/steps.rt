@@ -10,12 +10,14 @@ ghost use Rattle.leaf_terms.specs.PlanMeanings.{part_of, plan_of};
 ghost use Rattle.leaf_terms.specs.RecursionMeanings.{recursion_of};
 ghost use Rattle.function_entries.specs.CodeEntries as spec;
 
-use crate::own_order::{first_count, own_goal, own_order, own_telescope, type_count};
+use crate::own_part::{first_count, own_goal, own_order, own_telescope, type_count};
 use crate::telescopes::{goal_with_below, ordered_variables, with_below};
 use crate::tree_entries::{node_entry, table_of};
 use core_sig::{Draft, Signature};
 use core_terms::{Items, Name, Stop, Tele, Term};
-use leaf_terms::{Part, Plan, Recursion, Translation, below_type, step_name};
+use leaf_terms::{
+    Part, Plan, Recursion, Translation, below_type, motive_name, recursions_named, step_name,
+};
 use run_terms::Naming;
 use split_terms::Node;
 use std::alloc::Global;
@@ -37,7 +39,7 @@ fn step_below(
 }
 
 /// `(F) (is) (x) (b : D!below.L ps (F!motive F) is x) (R)`.
-fn step_telescope(
+pub fn step_telescope(
     alloc: Global,
     naming: Naming,
     plan: &Plan,
@@ -52,7 +54,7 @@ fn step_telescope(
 }
 
 /// The goal over it.
-fn step_goal(alloc: Global, own: &Part, r: &Recursion) -> Result<Term, Stop>
+pub fn step_goal(alloc: Global, own: &Part, r: &Recursion) -> Result<Term, Stop>
     ensures { Gives tree_of result (Ok (spec.step_goal (part_of own.now) (recursion_of r.now))) }
 {
     let goal = own_goal(alloc, own, r)?;
@@ -121,11 +123,13 @@ fn step_with(
         names: table,
     };
     let order = own_order(alloc, own, r)?;
+    let motive = motive_name(alloc, &plan.name)?;
+    let recursions = recursions_named(alloc, &motive, Some(r))?;
     let w = Translation {
         sig,
         naming,
         plan,
-        recursion: Some(r),
+        recursions: recursions.as_slice(),
         part: own,
         order: order.as_slice(),
     };

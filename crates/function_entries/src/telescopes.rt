@@ -1,5 +1,5 @@
 //! Telescopes with one type more among others.
-ghost use Rattle.std.specs.Prelude.{◌≡◌, ◌-◌, ◌++◌, Ok, drop, take};
+ghost use Rattle.std.specs.Prelude.{◌≡◌, ◌-◌, ◌++◌, Ok, take};
 ghost use Rattle.core_terms.specs.Answers.{Gives};
 ghost use Rattle.core_terms.specs.Levels as by_level;
 ghost use Rattle.core_terms.specs.Meanings.{tree_of, tele_of};
@@ -9,6 +9,7 @@ ghost use Rattle.tele_eq.specs.Levels as levels;
 ghost use Rattle.tree_translation.specs.Entries as spec;
 
 use core_terms::{Items, Stop, Tele, Term, copy_whole, next, number_of, variable};
+use leaf_terms::after_first;
 use run_terms::{place_in, raised};
 use std::alloc::Global;
 
@@ -26,19 +27,6 @@ pub fn with_first(alloc: Global, count: u32, terms: &[Term], mut made: Tele) -> 
             made.push(copy_whole(alloc, t)?)?;
             with_first(alloc, count - 1, rest, made)
         }
-    }
-}
-
-/// The terms after the first `count` ones.
-pub fn after_first(terms: &[Term], count: u32) -> &[Term]
-    ensures { tele_of result.now ≡ drop count (tele_of terms.now) }
-{
-    if count == 0 {
-        return terms;
-    }
-    match terms {
-        [] => terms,
-        [_, rest @ ..] => after_first(rest, count - 1),
     }
 }
 

@@ -4,7 +4,7 @@ ghost use Rattle.core_terms.specs.Meanings.{tree_of, tele_of};
 ghost use Rattle.core_terms.specs.TreeMeanings.{branch_of, branches_of, case_tree_of};
 ghost use Rattle.run_terms.specs.outlines.OutlineMeanings.{outline_of, outlines_of};
 ghost use Rattle.split_terms.specs.NodeMeanings.{node_of};
-ghost use Rattle.leaf_terms.specs.PlaceMeanings.{HasFamily, translation_of};
+ghost use Rattle.leaf_terms.specs.PlaceMeanings.{HaveFamilies, translation_of};
 ghost use Rattle.function_entries.specs.CodeTrees as spec;
 ghost use Rattle.function_entries.specs.SplitMeanings.{IsWholeSplit, family_of_split};
 
@@ -25,7 +25,7 @@ fn leaf_at(
     terms: &[Term],
     binds: &[Term],
 ) -> Result<Outline, Stop>
-    requires { HasFamily w.now.sig.now (translation_of w.now).recursion }
+    requires { HaveFamilies w.now.sig.now (translation_of w.now).recursions }
     ensures { Gives outline_of result (spec.leaf_at (translation_of w.now) (node_of node.now) clause (tele_of substitution.now) (tele_of terms.now) (tele_of binds.now)) }
 {
     let n = variable_count(node)?;
@@ -64,7 +64,7 @@ fn split_with(
 /// The term of a tree at a node, in outline, or Deep.
 #[cycle(terms)]
 pub fn tree_term(alloc: Global, w: &Translation, tree: &Tree, node: &Node) -> Result<Outline, Stop>
-    requires { HasFamily w.now.sig.now (translation_of w.now).recursion }
+    requires { HaveFamilies w.now.sig.now (translation_of w.now).recursions }
     ensures { Gives outline_of result (spec.tree_made (translation_of w.now) (case_tree_of tree.now) (node_of node.now)) }
 {
     match tree {
@@ -105,7 +105,7 @@ fn split_at(
     ty: &Term,
     branches: &[Branch],
 ) -> Result<Outline, Stop>
-    requires { HasFamily w.now.sig.now (translation_of w.now).recursion }
+    requires { HaveFamilies w.now.sig.now (translation_of w.now).recursions }
     ensures { Gives outline_of result (spec.split_made (translation_of w.now) (branches_of branches.now) (node_of node.now) x (tree_of ty.now)) }
 {
     let v = split_variable(alloc, w.sig, node, x, ty)?;
@@ -125,7 +125,7 @@ fn with_ends(
     branches: &[Branch],
     made: Items<Outline>,
 ) -> Result<Items<Outline>, Stop>
-    requires family { HasFamily w.now.sig.now (translation_of w.now).recursion }
+    requires family { HaveFamilies w.now.sig.now (translation_of w.now).recursions }
     requires whole { IsWholeSplit v.now }
     ensures { Gives (λ v. map outline_of v) result (spec.ends_made (translation_of w.now) (branches_of branches.now) (node_of node.now) v.now.number (family_of_split v.now) number (map outline_of made)) }
 {
@@ -149,7 +149,7 @@ fn with_end(
     branch: &Branch,
     mut made: Items<Outline>,
 ) -> Result<Items<Outline>, Stop>
-    requires family { HasFamily w.now.sig.now (translation_of w.now).recursion }
+    requires family { HaveFamilies w.now.sig.now (translation_of w.now).recursions }
     requires whole { IsWholeSplit v.now }
     ensures { Gives (λ v. map outline_of v) result (spec.end_made (translation_of w.now) (branch_of branch.now) (node_of node.now) v.now.number (family_of_split v.now) number (map outline_of made)) }
 {

@@ -1,9 +1,9 @@
 -- The term that the code makes of a right side is the one that is meant, or Deep: and then only where that is too high, or some argument
 -- was not made.
-use Rattle.std.proofs.Common.{◌≡◌, ℕ, ◌+◌, ◌-◌, ◌<◌, ◌≤◌, ◌==◌, nat_lt, Bool, true, false, ◌&&◌, if◌then◌else◌, cond, Option, Some, None, option_map, List, [], ◌∷◌, ◌++◌, drop, get_or, zero, suc, Result, Ok, Err, inl, inr, refl, ap, sym, ◌∙◌, subst as transport, arith}
+use Rattle.std.proofs.Common.{◌≡◌, ℕ, ◌+◌, ◌-◌, ◌<◌, ◌≤◌, ◌==◌, nat_lt, Bool, true, false, ◌&&◌, if◌then◌else◌, cond, Option, Some, None, List, [], ◌∷◌, ◌++◌, drop, get_or, zero, suc, Result, Ok, Err, inl, inr, refl, ap, sym, ◌∙◌, subst as transport, arith}
 use Rattle.std.proofs.lemmas.Bool.{true≢false}
 use Rattle.std.proofs.lemmas.Bool.Decides.{nat_tests}
-use Rattle.theory.specs.Terms.{Term, Var, Sort, Pi, Lam, App, Let, Const, Fam, Con, Elim, AxiomK, height, lift}
+use Rattle.theory.specs.Terms.{Term, Var, Sort, Pi, Lam, App, Let, Const, Fam, Con, Elim, AxiomK, height}
 use Rattle.theory.specs.Telescopes.{applied}
 use Rattle.core_terms.specs.Answers.{and_then, bounded, is_low}
 use Rattle.core_terms.specs.declared.stop.Stop.{Stop}
@@ -18,11 +18,11 @@ use Rattle.unification.specs.Injecting.{lifted}
 use Rattle.tree_translation.specs.Naming.{Naming, helper_name}
 use Rattle.tree_translation.specs.Hidden.{visible}
 use Rattle.tree_translation.specs.Plans.{Plan, Part}
-use Rattle.tree_translation.specs.Recursion.{Recursion, remaining_positions, terms_at}
+use Rattle.tree_translation.specs.Recursion.{NamedRecursion, Recursion, remaining_positions, terms_at}
 use Rattle.tree_translation.specs.RightSides as sides
-use Rattle.tree_translation.specs.RightSides.{Place, below_behind, descent_at, leaf_term, path_or_below, place_with, with_calls}
+use Rattle.tree_translation.specs.RightSides.{BelowValue, Place, applied_path, belows_behind, belows_under, descent_at, leaf_term, place_with, with_calls}
 use Rattle.tree_translation.specs.Standings.{all_placed}
-use Rattle.leaf_terms.specs.CodeRightSides.{applied_made, applied_path, both_made, call_by_path, call_made, calls_made, constant_made, leaf_made, let_made, low_or_deep, or_below, or_tower, or_towers, part_made, path_at, path_for, path_made, side_with}
+use Rattle.leaf_terms.specs.CodeRightSides.{applied_made, both_made, call_by_path, call_found, call_made, calls_made, constant_made, found_by, found_for, found_part, leaf_made, let_made, low_or_deep, only_high, or_tower, or_towers, part_made, side_with}
 use Rattle.leaf_terms.specs.Laws.{LeafIsDeep, LeafIsTerm}
 use Rattle.leaf_terms.proofs.PartHeights.{path-part}
 use Rattle.leaf_terms.proofs.SeenAlike.{EachAlike, IsLike, height-applied, like-applied, like-itself, like-lam, like-let, like-pi, part-seen}
@@ -86,54 +86,6 @@ itself-alike (t ∷ ts) = EachAlike.more (inl refl) (itself-alike ts)
 high-is : (t : Term) → is_low t ≡ false → 2000 < height t
 high-is t e = grind (arith, nat_tests)
 
--- the path where it is made, or the below value
-path-test : (b w s : Bool) (made path below : Term) → w ≡ true → (s ≡ true → made ≡ path) → (s ≡ false → b ≡ true → 2000 < height path)
-    → Stands (or_below below (if b then (if w && s then some_bounded made else Err Deep) else Ok None)) (cond b path below)
-path-test false w s made path below e same high = like-itself below
-path-test true true true made path below e same high = low (is_low made) refl
-  where
-    low : (c : Bool) → is_low made ≡ c → Stands (or_below below (and_then (if c then Ok made else Err Deep) (λ u. Ok (Some u)))) path
-    low true c = transport (IsLike made) (same refl) (like-itself made)
-    low false c = transport (λ t. 2000 < height t) (same refl) (high-is made c)
-path-test true true false made path below e same high = high refl refl
-path-test true false s made path below e same high = absurd (true≢false (sym e))
-
-part-means : (number : Naming) (plan : Plan) (r : Recursion) (terms : List Term) (s t whole below : Term) → IsLike s t
-    → Means (path_made (descent_at number plan r terms s) whole below) (path_or_below (descent_at number plan r terms t) whole below)
-part-means number plan r terms s t whole below like = by (is_low whole) refl
-  where
-    same : Alike s t → height s ≤ 2000 → s ≡ t
-    same (inl e) low = e
-    same (inr (high, high')) low = absurd (omega arith)
-
-    high-too : Alike s t → 2000 < height s → 2000 < height t
-    high-too (inl e) high = transport (λ u. 2000 < height u) e high
-    high-too (inr (h, h')) high = h'
-
-    longer : (n m : ℕ) → 2000 < n → n ≤ m → 2000 < m
-    longer n m h k = omega arith
-
-    tests : height whole ≤ 2000
-        → has_part r.admission.number (family_shape r.admission.number r.family) s whole ≡ has_part r.admission.number (family_shape r.admission.number r.family) t whole
-    tests low = part-seen r.admission.number (family_shape r.admission.number r.family) s t like.seen whole low
-
-    by : (w : Bool) → is_low whole ≡ w
-        → Means (cond w (Ok (or_below below (path_to (descent_at number plan r terms s) whole below))) (Err Deep))
-        (path_or_below (descent_at number plan r terms t) whole below)
-    by false e = refl
-    by true e =
-        transport
-        (λ b. Stands (or_below below (path_to (descent_at number plan r terms s) whole below)) (cond b (path_of (descent_at number plan r terms t) whole below) below))
-        (tests (low-is whole e))
-        (path-test (has_part r.admission.number (family_shape r.admission.number r.family) s whole) (is_low whole) (is_low s)
-        (path_of (descent_at number plan r terms s) whole below) (path_of (descent_at number plan r terms t) whole below) below e
-        (λ low. ap (λ u. path_of (descent_at number plan r terms u) whole below) (same like.alike (low-is s low)))
-        (λ high there.
-        longer (height t) (height (path_of (descent_at number plan r terms t) whole below)) (high-too like.alike (high-is s high))
-        (path-part (descent_at number plan r terms t) whole below (sym (tests (low-is whole e)) ∙ there))))
-
--- ---- calls
-
 higher : (h : Term) (us : List Term) → 2000 < height h → 2000 < height (applied h us)
 higher h us high = let rest = height-applied h us in omega arith
 
@@ -145,35 +97,110 @@ cond-means : (b : Bool) (r s : Result (Option Term) Stop) (t u : Term) → Means
 cond-means true r s t u m n = m
 cond-means false r s t u m n = n
 
-call-means : (number : Naming) (plan : Plan) (r : Recursion) (terms : List Term) (below : Term) (os : List (Option Term)) (ts : List Term) → EachStands os ts
-    → Means (call_by_path number plan r terms below os) (sides.call_by_path number plan r terms below ts)
-call-means number plan r terms below os ts all =
-    then-means (λ path. Ok (option_map (applied_path plan r (or_towers os)) path))
-    (path_or_below (descent_at number plan r terms (term_at ts r.position)) (term_at terms r.position) below)
-    (sides.call_by_path number plan r terms below ts)
-    (path_at number plan r terms below os) (path (get_or os r.position (Some (Sort 0))) (get-stands os ts r.position all)) further
-  where
-    path : (o : Option Term) → Stands o (term_at ts r.position)
-        → Means (path_for number plan r terms below o) (path_or_below (descent_at number plan r terms (term_at ts r.position)) (term_at terms r.position) below)
-    path None h = refl
-    path (Some s) h = part-means number plan r terms s (term_at ts r.position) (term_at terms r.position) below h
+high-too : (s t : Term) → Alike s t → 2000 < height s → 2000 < height t
+high-too s t (inl e) high = transport (λ u. 2000 < height u) e high
+high-too s t (inr (h, h')) high = h'
 
-    others : EachAlike (terms_at (remaining_positions plan.arity r) (or_towers os) ++ drop plan.arity (or_towers os)) (terms_at (remaining_positions plan.arity r) ts ++ drop plan.arity ts)
-    others =
-        append-alike (terms_at (remaining_positions plan.arity r) (or_towers os)) (terms_at (remaining_positions plan.arity r) ts) (drop plan.arity (or_towers os)) (drop plan.arity ts)
-        (each-at (remaining_positions plan.arity r) (or_towers os) ts (towers-alike os ts all)) (drop-alike plan.arity (or_towers os) ts (towers-alike os ts all))
+-- paths at the arguments of a call
+path-applied : (plan : Plan) (r : Recursion) (os : List (Option Term)) (ts : List Term) → EachStands os ts → (s t : Term) → IsLike s t
+    → IsLike (applied_path plan r (or_towers os) s) (applied_path plan r ts t)
+path-applied plan r os ts all s t like =
+    like-applied s t (terms_at (remaining_positions plan.arity r) (or_towers os) ++ drop plan.arity (or_towers os)) (terms_at (remaining_positions plan.arity r) ts ++ drop plan.arity ts) like
+    (append-alike (terms_at (remaining_positions plan.arity r) (or_towers os)) (terms_at (remaining_positions plan.arity r) ts) (drop plan.arity (or_towers os)) (drop plan.arity ts)
+    (each-at (remaining_positions plan.arity r) (or_towers os) ts (towers-alike os ts all)) (drop-alike plan.arity (or_towers os) ts (towers-alike os ts all)))
 
-    further : (o : Option Term) → Stands o (path_or_below (descent_at number plan r terms (term_at ts r.position)) (term_at terms r.position) below)
-        → Means (Ok (option_map (applied_path plan r (or_towers os)) o)) (sides.call_by_path number plan r terms below ts)
-    further None h = higher (path_or_below (descent_at number plan r terms (term_at ts r.position)) (term_at terms r.position) below) (terms_at (remaining_positions plan.arity r) ts ++ drop plan.arity ts) h
-    further (Some s) h =
-        like-applied s (path_or_below (descent_at number plan r terms (term_at ts r.position)) (term_at terms r.position) below)
-        (terms_at (remaining_positions plan.arity r) (or_towers os) ++ drop plan.arity (or_towers os)) (terms_at (remaining_positions plan.arity r) ts ++ drop plan.arity ts) h others
+path-high : (plan : Plan) (r : Recursion) (ts : List Term) (path : Term) → 2000 < height path → 2000 < height (applied_path plan r ts path)
+path-high plan r ts path high = higher path (terms_at (remaining_positions plan.arity r) ts ++ drop plan.arity ts) high
 
-in-means : (number : Naming) (plan : Plan) (l : Place) (under : ℕ) (os : List (Option Term)) (ts : List Term) (r : Option (Recursion × Term)) → EachStands os ts
-    → Means (call_made number plan l under os r) (sides.call_in number plan l under ts r)
-in-means number plan l under os ts None all = like-itself (Sort 0)
-in-means number plan l under os ts (Some r) all = call-means number plan r.0 (lifted under l.terms) (lift r.1 under 0) os ts all
+module _ (plan : Plan) (r : Recursion) (os : List (Option Term)) (ts : List Term) (all : EachStands os ts) (other : Result (Option Term) Stop) (rest : Term) (others : Means other rest) where
+  -- the call by a path where it is made, or the other one
+  path-test : (b w low : Bool) (made path : Term) → w ≡ true → (low ≡ true → made ≡ path) → (low ≡ false → b ≡ true → 2000 < height path)
+      → Means (call_found plan r os other (found_by (if b then (if w && low then some_bounded made else Err Deep) else Ok None))) (cond b (applied_path plan r ts path) rest)
+  path-test false w low made path e same high = others
+  path-test true true true made path e same high = by (is_low made) refl
+    where
+      by : (c : Bool) → is_low made ≡ c
+          → Means (call_found plan r os other (found_by (and_then (if c then Ok made else Err Deep) (λ u. Ok (Some u))))) (applied_path plan r ts path)
+      by true c = path-applied plan r os ts all made path (transport (IsLike made) (same refl) (like-itself made))
+      by false c = path-high plan r ts path (transport (λ t. 2000 < height t) (same refl) (high-is made c))
+  path-test true true false made path e same high = path-high plan r ts path (high refl refl)
+  path-test true false low made path e same high = absurd (true≢false (sym e))
+
+  -- where the argument is too high, so are the call by the path to it, and the other one
+  only-means : (b : Bool) (path : Term) (o : Option Term) → (b ≡ true → 2000 < height path) → Stands o rest → Means (only_high o) (cond b (applied_path plan r ts path) rest)
+  only-means b path o high stands = by o stands
+    where
+      both : (c : Bool) → (c ≡ true → 2000 < height path) → 2000 < height rest → 2000 < height (cond c (applied_path plan r ts path) rest)
+      both true h k = path-high plan r ts path (h refl)
+      both false h k = k
+
+      test : (s : Term) → IsLike s rest → (c : Bool) → is_low s ≡ c → Means (cond c (Err Deep) (Ok None)) (cond b (applied_path plan r ts path) rest)
+      test s like true e = refl
+      test s like false e = both b high (high-too s rest like.alike (high-is s e))
+
+      by : (o : Option Term) → Stands o rest → Means (only_high o) (cond b (applied_path plan r ts path) rest)
+      by None h = both b high h
+      by (Some s) h = test s h (is_low s) refl
+
+  module _ (number : Naming) (terms : List Term) (b : BelowValue) (t : Term) where
+    abbrev Whole : Term
+    Whole = term_at terms b.recursion.position
+
+    abbrev Meant : Term
+    Meant = cond (has_part b.recursion.admission.number (family_shape b.recursion.admission.number b.recursion.family) t Whole) (applied_path plan r ts (path_of (descent_at number plan b t) Whole b.value)) rest
+
+    longer : (n m : ℕ) → 2000 < n → n ≤ m → 2000 < m
+    longer n m h k = omega arith
+
+    part-means : (s : Term) → IsLike s t
+        → Means (and_then (found_for (descent_at number plan b s) Whole b.value) (call_found plan r os other)) Meant
+    part-means s like = by (is_low Whole) refl
+      where
+        same : Alike s t → height s ≤ 2000 → s ≡ t
+        same (inl e) low = e
+        same (inr (high, high')) low = absurd (omega arith)
+
+        tests : height Whole ≤ 2000
+            → has_part b.recursion.admission.number (family_shape b.recursion.admission.number b.recursion.family) s Whole
+            ≡ has_part b.recursion.admission.number (family_shape b.recursion.admission.number b.recursion.family) t Whole
+        tests low = part-seen b.recursion.admission.number (family_shape b.recursion.admission.number b.recursion.family) s t like.seen Whole low
+
+        by : (w : Bool) → is_low Whole ≡ w
+            → Means (and_then (cond w (Ok (found_by (path_to (descent_at number plan b s) Whole b.value))) (Err Deep)) (call_found plan r os other)) Meant
+        by false e = refl
+        by true e =
+            transport
+            (λ c. Means (call_found plan r os other (found_by (path_to (descent_at number plan b s) Whole b.value))) (cond c (applied_path plan r ts (path_of (descent_at number plan b t) Whole b.value)) rest))
+            (tests (low-is Whole e))
+            (path-test (has_part b.recursion.admission.number (family_shape b.recursion.admission.number b.recursion.family) s Whole) (is_low Whole) (is_low s)
+            (path_of (descent_at number plan b s) Whole b.value) (path_of (descent_at number plan b t) Whole b.value) e
+            (λ low. ap (λ u. path_of (descent_at number plan b u) Whole b.value) (same like.alike (low-is s low)))
+            (λ high there.
+            longer (height t) (height (path_of (descent_at number plan b t) Whole b.value)) (high-too s t like.alike (high-is s high))
+            (path-part (descent_at number plan b t) Whole b.value (sym (tests (low-is Whole e)) ∙ there))))
+
+    found-means : (o : Option Term) → Stands o t → Means (and_then (found_part number plan terms b o) (call_found plan r os other)) Meant
+    found-means None high =
+        then-means only_high rest Meant other others
+        (λ o stands.
+        only-means (has_part b.recursion.admission.number (family_shape b.recursion.admission.number b.recursion.family) t Whole) (path_of (descent_at number plan b t) Whole b.value) o
+        (λ there. longer (height t) (height (path_of (descent_at number plan b t) Whole b.value)) high (path-part (descent_at number plan b t) Whole b.value there)) stands)
+    found-means (Some s) like = part-means s like
+
+-- ---- calls
+
+call-means : (number : Naming) (plan : Plan) (terms : List Term) (first : BelowValue) (os : List (Option Term)) (ts : List Term) (belows : List BelowValue) → EachStands os ts
+    → Means (call_by_path number plan terms first os belows) (sides.call_by_path number plan terms first ts belows)
+call-means number plan terms first os ts [] all = path-applied plan first.recursion os ts all first.value first.value (like-itself first.value)
+call-means number plan terms first os ts (b ∷ belows) all =
+    found-means plan b.recursion os ts all (call_by_path number plan terms first os belows) (sides.call_by_path number plan terms first ts belows)
+    (call-means number plan terms first os ts belows all) number terms b (term_at ts b.recursion.position)
+    (get_or os b.recursion.position (Some (Sort 0))) (get-stands os ts b.recursion.position all)
+
+in-means : (number : Naming) (plan : Plan) (terms : List Term) (os : List (Option Term)) (ts : List Term) (belows : List BelowValue) → EachStands os ts
+    → Means (call_made number plan terms os belows) (sides.call_in number plan terms ts belows)
+in-means number plan terms os ts [] all = like-itself (Sort 0)
+in-means number plan terms os ts (b ∷ belows) all = call-means number plan terms b os ts (b ∷ belows) all
 
 head-means : (h : Term) (os : List (Option Term)) (ts : List Term) → EachStands os ts → Means (Ok (Some (applied h (or_towers os)))) (applied h ts)
 head-means h os ts all = like-applied h h (or_towers os) ts (like-itself h) (towers-alike os ts all)
@@ -181,20 +208,20 @@ head-means h os ts all = like-applied h h (or_towers os) ts (like-itself h) (tow
 helper-means : (number : Naming) (plan : Plan) (l : Place) (under k : ℕ) (os : List (Option Term)) (ts : List Term) → EachStands os ts
     → Means (Ok (Some (sides.helper_call number plan l under k (or_towers os)))) (sides.helper_call number plan l under k ts)
 helper-means number plan l under k os ts all =
-    like-applied (Const (number (helper_name plan.name k))) (Const (number (helper_name plan.name k))) (or_towers os ++ below_behind under l.recursion) (ts ++ below_behind under l.recursion)
+    like-applied (Const (number (helper_name plan.name k))) (Const (number (helper_name plan.name k))) (or_towers os ++ belows_behind under l.belows) (ts ++ belows_behind under l.belows)
     (like-itself (Const (number (helper_name plan.name k))))
-    (append-alike (or_towers os) ts (below_behind under l.recursion) (below_behind under l.recursion) (towers-alike os ts all) (itself-alike (below_behind under l.recursion)))
+    (append-alike (or_towers os) ts (belows_behind under l.belows) (belows_behind under l.belows) (towers-alike os ts all) (itself-alike (belows_behind under l.belows)))
 
 constant-means : (number : Naming) (plan : Plan) (l : Place) (under c : ℕ) (os : List (Option Term)) (ts : List Term) → EachStands os ts
     → Means (constant_made number plan l under c os) (sides.constant_at number plan l under c ts)
 constant-means number plan l under c os ts all =
     let here : Result (Option Term) Stop = Ok (Some (applied (Const c) (or_towers os))) in
     let helper : Result (Option Term) Stop = Ok (Some (sides.helper_call number plan l under (c - plan.base) (or_towers os))) in
-    cond-means (nat_lt c plan.base) here (cond (c == plan.base) (call_made number plan l under os l.recursion) helper)
-    (applied (Const c) ts) (cond (c == plan.base) (sides.call_in number plan l under ts l.recursion) (sides.helper_call number plan l under (c - plan.base) ts))
+    cond-means (nat_lt c plan.base) here (cond (c == plan.base) (call_made number plan (lifted under l.terms) os (belows_under under l.belows)) helper)
+    (applied (Const c) ts) (cond (c == plan.base) (sides.call_in number plan (lifted under l.terms) ts (belows_under under l.belows)) (sides.helper_call number plan l under (c - plan.base) ts))
     (head-means (Const c) os ts all)
-    (cond-means (c == plan.base) (call_made number plan l under os l.recursion) helper (sides.call_in number plan l under ts l.recursion)
-    (sides.helper_call number plan l under (c - plan.base) ts) (in-means number plan l under os ts l.recursion all)
+    (cond-means (c == plan.base) (call_made number plan (lifted under l.terms) os (belows_under under l.belows)) helper (sides.call_in number plan (lifted under l.terms) ts (belows_under under l.belows))
+    (sides.helper_call number plan l under (c - plan.base) ts) (in-means number plan (lifted under l.terms) os ts (belows_under under l.belows) all)
     (helper-means number plan l under (c - plan.base) os ts all))
 
 -- ---- terms of parts
@@ -284,12 +311,12 @@ means-ok r t u m e = transport (λ q. LeafMeans q t) e m
 means-deep : (r : Result Term Stop) (t : Term) (e : Stop) → LeafMeans r t → r ≡ Err e → e ≡ Deep
 means-deep r t z m e = transport (λ q. LeafMeans q t) e m
 
-leaf-means : (number : Naming) (plan : Plan) (r : Option Recursion) (part : Part) (order : List ℕ) (n : ℕ) (hidden : List ℕ) (clause : ℕ)
+leaf-means : (number : Naming) (plan : Plan) (recursions : List NamedRecursion) (part : Part) (order : List ℕ) (n : ℕ) (hidden : List ℕ) (clause : ℕ)
     (substitution terms binds : List Term)
-    → LeafMeans (leaf_made number plan r part order n hidden clause substitution terms binds)
-    (leaf_term number plan r part order n hidden clause substitution terms binds)
-leaf-means number plan r part order n hidden clause substitution terms binds =
-    let place = place_with n hidden r (all_placed (visible n hidden) n terms) in
+    → LeafMeans (leaf_made number plan recursions part order n hidden clause substitution terms binds)
+    (leaf_term number plan recursions part order n hidden clause substitution terms binds)
+leaf-means number plan recursions part order n hidden clause substitution terms binds =
+    let place = place_with number n hidden recursions (all_placed (visible n hidden) n terms) in
     let side = side_with plan part order (visible n hidden) n clause substitution terms binds in
     let meant = with_calls number plan place 0 [] side in
     and_then-splits (λ o. Stands o meant) (λ u. u ≡ meant) IsDeep (calls_made number plan place 0 [] side) low_or_deep
@@ -297,13 +324,13 @@ leaf-means number plan r part order n hidden clause substitution terms binds =
     (λ o h. transport (λ r. LeafMeans r meant) (sym (bounded-is o meant h)) (bounded-means meant))
 
 pub leaf-is-term : LeafIsTerm
-leaf-is-term number plan r part order n hidden clause substitution terms binds t e =
-    means-ok (leaf_made number plan r part order n hidden clause substitution terms binds)
-    (leaf_term number plan r part order n hidden clause substitution terms binds) t
-    (leaf-means number plan r part order n hidden clause substitution terms binds) e
+leaf-is-term number plan recursions part order n hidden clause substitution terms binds t e =
+    means-ok (leaf_made number plan recursions part order n hidden clause substitution terms binds)
+    (leaf_term number plan recursions part order n hidden clause substitution terms binds) t
+    (leaf-means number plan recursions part order n hidden clause substitution terms binds) e
 
 pub leaf-is-deep : LeafIsDeep
-leaf-is-deep number plan r part order n hidden clause substitution terms binds z e =
-    means-deep (leaf_made number plan r part order n hidden clause substitution terms binds)
-    (leaf_term number plan r part order n hidden clause substitution terms binds) z
-    (leaf-means number plan r part order n hidden clause substitution terms binds) e
+leaf-is-deep number plan recursions part order n hidden clause substitution terms binds z e =
+    means-deep (leaf_made number plan recursions part order n hidden clause substitution terms binds)
+    (leaf_term number plan recursions part order n hidden clause substitution terms binds) z
+    (leaf-means number plan recursions part order n hidden clause substitution terms binds) e

@@ -1,6 +1,8 @@
+pub mod BelowFamilies
 pub mod Digits
 pub mod LeafTerms
 pub mod Lengths
+pub mod MadeParts
 pub mod PartHeights
 pub mod RecursionFound
 pub mod SeenAlike

@@ -1,7 +1,7 @@
 -- Right sides at leaves as the code makes them. A term that is too high is not made: a tower takes its place, which is higher than a term
 -- may be, and a right side that still has a tower is Deep. So nothing is refused for an argument that a call drops.
-use Rattle.std.specs.Prelude.{ℕ, zero, suc, ◌+◌, ◌-◌, ◌==◌, nat_lt, cond, Option, Some, None, option_map, List, [], ◌∷◌, ◌++◌, map, drop, get_or, Result, Ok, Err}
-use Rattle.theory.specs.Terms.{Term, Sort, Pi, Lam, App, Let, Const, lift}
+use Rattle.std.specs.Prelude.{ℕ, zero, suc, ◌+◌, ◌-◌, ◌==◌, nat_lt, cond, Option, Some, None, List, [], ◌∷◌, map, get_or, Result, Ok, Err}
+use Rattle.theory.specs.Terms.{Term, Sort, Pi, Lam, App, Let, Const}
 use Rattle.theory.specs.Substitutions.{inst, fill}
 use Rattle.theory.specs.Telescopes.{applied}
 use Rattle.theory.specs.Eliminators.{no_variable}
@@ -16,8 +16,8 @@ use Rattle.tree_translation.specs.Standings.{all_placed}
 use Rattle.tree_translation.specs.Hidden.{visible}
 use Rattle.tree_translation.specs.RunTerms.{no_term}
 use Rattle.tree_translation.specs.Plans.{Plan, Part}
-use Rattle.tree_translation.specs.Recursion.{Recursion, remaining_positions, terms_at}
-use Rattle.tree_translation.specs.RightSides.{Place, descent_at, helper_call, place_with, values_at}
+use Rattle.tree_translation.specs.Recursion.{NamedRecursion, Recursion}
+use Rattle.tree_translation.specs.RightSides.{BelowValue, Place, applied_path, belows_under, descent_at, helper_call, place_with, values_at}
 
 -- ---- terms that are too high
 
@@ -39,47 +39,61 @@ or_towers arguments = map or_tower arguments
 
 -- ---- calls
 
--- a path where there is one, and else the below value; None where the path is too high
-abbrev pub or_below : (below : Term) → Result (Option Term) Stop → Option Term
-or_below below (Ok None) = Some below
-or_below below (Ok (Some path)) = Some path
-or_below below (Err e) = None
+-- Where the argument of a call is looked for in a below value: the argument is itself too high, it is no strict part of the leaf's term,
+-- the path to it is too high, or there is a path.
+pub data Found : Type 0 where
+  Missing : Found
+  Elsewhere : Found
+  TooHigh : Found
+  At : (path : Term) → Found
+
+abbrev pub found_by : Result (Option Term) Stop → Found
+found_by (Ok None) = Elsewhere
+found_by (Ok (Some path)) = At path
+found_by (Err e) = TooHigh
 
 -- Deep where the leaf's term is too high
-abbrev pub path_made : Descent → (whole below : Term) → Result (Option Term) Stop
-path_made d whole below = cond (is_low whole) (Ok (or_below below (path_to d whole below))) (Err Deep)
+abbrev pub found_for : Descent → (whole below : Term) → Result Found Stop
+found_for d whole below = cond (is_low whole) (Ok (found_by (path_to d whole below))) (Err Deep)
 
--- the path to the part, applied to the arguments at the other positions and any further ones
-abbrev pub applied_path : Plan → Recursion → (arguments : List Term) → (path : Term) → Term
-applied_path plan r arguments path =
-    applied path (terms_at (remaining_positions plan.arity r) arguments ++ drop plan.arity arguments)
+abbrev pub found_part : Naming → Plan → (terms : List Term) → BelowValue → (part : Option Term) → Result Found Stop
+found_part number plan terms b None = Ok Missing
+found_part number plan terms b (Some part) =
+    found_for (descent_at number plan b part) (term_at terms b.recursion.position) b.value
 
--- the path for the argument at the position, or Deep where that argument is itself the call of a path that is too high
-abbrev pub path_for : Naming → Plan → Recursion → (terms : List Term) (below : Term) → Option Term → Result (Option Term) Stop
-path_for number plan r terms below None = Err Deep
-path_for number plan r terms below (Some part) =
-    path_made (descent_at number plan r terms part) (term_at terms r.position) below
+abbrev pub found_at : Naming → Plan → (terms : List Term) → BelowValue → (arguments : List (Option Term)) → Result Found Stop
+found_at number plan terms b arguments = found_part number plan terms b (get_or arguments b.recursion.position (Some (Sort 0)))
 
-abbrev pub path_at : Naming → Plan → Recursion → (terms : List Term) (below : Term) → (arguments : List (Option Term))
+-- a call that is too high, or Deep where it is not
+abbrev pub only_high : Option Term → Result (Option Term) Stop
+only_high None = Ok None
+only_high (Some t) = cond (is_low t) (Err Deep) (Ok None)
+
+-- The call by what is found, or the other one. Where the argument is too high, so is a call by the path to it; it is not known then whether
+-- there is one, so the answer is Deep unless the other call is too high as well.
+abbrev pub call_found : Plan → Recursion → (arguments : List (Option Term)) → (other : Result (Option Term) Stop) → Found
     → Result (Option Term) Stop
-path_at number plan r terms below arguments =
-    path_for number plan r terms below (get_or arguments r.position (Some (Sort 0)))
+call_found plan r arguments other Missing = and_then other only_high
+call_found plan r arguments other Elsewhere = other
+call_found plan r arguments other TooHigh = Ok None
+call_found plan r arguments other (At path) = Ok (Some (applied_path plan r (or_towers arguments) path))
 
-abbrev pub call_by_path : Naming → Plan → Recursion → (terms : List Term) (below : Term) → (arguments : List (Option Term))
+-- the call by the first of the below values in which there is a path, or else by the first of all
+abbrev pub call_by_path : Naming → Plan → (terms : List Term) → (first : BelowValue) → (arguments : List (Option Term)) → List BelowValue
     → Result (Option Term) Stop
-call_by_path number plan r terms below arguments =
-    and_then (path_at number plan r terms below arguments) (λ path. Ok (option_map (applied_path plan r (or_towers arguments)) path))
+call_by_path number plan terms first arguments [] = Ok (Some (applied_path plan first.recursion (or_towers arguments) first.value))
+call_by_path number plan terms first arguments (b ∷ belows) =
+    and_then (found_at number plan terms b arguments)
+    (call_found plan b.recursion arguments (call_by_path number plan terms first arguments belows))
 
-abbrev pub call_made : Naming → Plan → Place → (under : ℕ) → (arguments : List (Option Term)) → Option (Recursion × Term)
-    → Result (Option Term) Stop
-call_made number plan l under arguments None = Ok (Some no_term)
-call_made number plan l under arguments (Some r) =
-    call_by_path number plan r.0 (lifted under l.terms) (lift r.1 under 0) arguments
+abbrev pub call_made : Naming → Plan → (terms : List Term) → (arguments : List (Option Term)) → List BelowValue → Result (Option Term) Stop
+call_made number plan terms arguments [] = Ok (Some no_term)
+call_made number plan terms arguments (b ∷ belows) = call_by_path number plan terms b arguments (b ∷ belows)
 
 abbrev pub constant_made : Naming → Plan → Place → (under c : ℕ) → (arguments : List (Option Term)) → Result (Option Term) Stop
 constant_made number plan l under c arguments =
     cond (nat_lt c plan.base) (Ok (Some (applied (Const c) (or_towers arguments))))
-    (cond (c == plan.base) (call_made number plan l under arguments l.recursion)
+    (cond (c == plan.base) (call_made number plan (lifted under l.terms) arguments (belows_under under l.belows))
     (Ok (Some (helper_call number plan l under (c - plan.base) (or_towers arguments)))))
 
 -- ---- terms with calls
@@ -134,16 +148,16 @@ abbrev pub low_or_deep : Option Term → Result Term Stop
 low_or_deep None = Err Deep
 low_or_deep (Some t) = bounded t
 
-abbrev pub leaf_with : Naming → Plan → Option Recursion → Part → (order levels : List ℕ) → (n : ℕ) (hidden : List ℕ)
+abbrev pub leaf_with : Naming → Plan → List NamedRecursion → Part → (order levels : List ℕ) → (n : ℕ) (hidden : List ℕ)
     → (clause : ℕ) → (substitution terms binds : List Term) → Result Term Stop
-leaf_with number plan r part order levels n hidden clause substitution terms binds =
+leaf_with number plan recursions part order levels n hidden clause substitution terms binds =
     and_then
-    (calls_made number plan (place_with n hidden r (all_placed levels n terms)) 0 []
+    (calls_made number plan (place_with number n hidden recursions (all_placed levels n terms)) 0 []
     (side_with plan part order levels n clause substitution terms binds))
     low_or_deep
 
 -- the term of a leaf over its whole context of n variables
-abbrev pub leaf_made : Naming → Plan → Option Recursion → Part → (order : List ℕ) → (n : ℕ) (hidden : List ℕ)
+abbrev pub leaf_made : Naming → Plan → List NamedRecursion → Part → (order : List ℕ) → (n : ℕ) (hidden : List ℕ)
     → (clause : ℕ) → (substitution terms binds : List Term) → Result Term Stop
-leaf_made number plan r part order n hidden clause substitution terms binds =
-    leaf_with number plan r part order (visible n hidden) n hidden clause substitution terms binds
+leaf_made number plan recursions part order n hidden clause substitution terms binds =
+    leaf_with number plan recursions part order (visible n hidden) n hidden clause substitution terms binds

@@ -1,6 +1,5 @@
 -- The meanings of places of leaves, of descents and of the data from which leaves are made.
-use Rattle.std.specs.Prelude.{option_map, map, IfSome, List, Option}
-use Rattle.std.specs.Option.{option_copied}
+use Rattle.std.specs.Prelude.{option_map, map, IfSome, List, [], ◌∷◌, Option}
 use Rattle.core_terms.specs.Meanings.{tree_of, tele_of}
 use Rattle.core_terms.specs.declared.term.Term as code
 use Rattle.core_sig.specs.FamilyShapes.{family_shape}
@@ -12,14 +11,22 @@ use Rattle.run_terms.specs.CodeNaming.{naming_of}
 use Rattle.tree_translation.specs.Recursion as recursions
 use Rattle.tree_translation.specs.RightSides as sides
 use Rattle.tree_translation.specs.TreeTerms as trees
+use Rattle.leaf_terms.specs.CodeRightSides as spec
 use Rattle.leaf_terms.specs.PlanMeanings.{part_of, plan_of}
-use Rattle.leaf_terms.specs.RecursionMeanings.{recursion_of}
+use Rattle.leaf_terms.specs.RecursionMeanings.{named_of, recursion_of}
 use Rattle.leaf_terms.specs.declared.leaves.Translation.{Translation}
 use Rattle.leaf_terms.specs.declared.paths.Descent.{Descent}
-use Rattle.leaf_terms.specs.declared.right_sides.BelowValue.{BelowValue}
+use Rattle.leaf_terms.specs.declared.paths.Found.{Found}
+use Rattle.leaf_terms.specs.declared.paths.Found.TheVariants.{At, Elsewhere, Missing, TooHigh}
+use Rattle.leaf_terms.specs.declared.below_values.BelowValue.{BelowValue}
 use Rattle.leaf_terms.specs.declared.right_sides.Place.{Place}
 
--- the family of recursion is in the signature, where there is recursion
+-- the families of recursions are in the signature
+abbrev pub HaveFamilies : Signature → List recursions.NamedRecursion → Type 0
+HaveFamilies S [] = Unit {0}
+HaveFamilies S (c ∷ rs) = IsEntryAt S c.recursion.admission.number (FamilyOf c.recursion.family) × HaveFamilies S rs
+
+-- that of recursion, where there is recursion
 abbrev pub HasFamily : Signature → Option recursions.Recursion → Type 0
 HasFamily S r = IfSome r (λ r. IsEntryAt S r.admission.number (FamilyOf r.family))
 
@@ -28,21 +35,27 @@ translation_of w = record {
   signature = w.sig.now;
   number = naming_of w.naming;
   plan = plan_of w.plan.now;
-  recursion = option_map recursion_of (option_copied w.recursion);
+  recursions = map named_of w.recursions.now;
   part = part_of w.part.now;
   order = w.order.now;
 }
 
-abbrev pub below_of : BelowValue → recursions.Recursion × Term
-below_of b = (recursion_of b.recursion.now, tree_of b.term)
+abbrev pub below_of : BelowValue → sides.BelowValue
+below_of b = record { recursion = recursion_of b.recursion.now; motive = tree_of b.motive; value = tree_of b.value }
+
+abbrev pub belows_of : List BelowValue → List sides.BelowValue
+belows_of belows = map below_of belows
 
 abbrev pub leaf_of : Place → sides.Place
-leaf_of l = record { terms = tele_of l.terms; recursion = option_map below_of l.below }
+leaf_of l = record { terms = tele_of l.terms; belows = belows_of l.belows.items }
 
--- the family of recursion at a place is in the signature, where there is recursion
-abbrev pub HasPlaceFamily : Signature → Place → Type 0
-HasPlaceFamily S l =
-    IfSome l.below (λ b. IsEntryAt S b.recursion.now.admission.number (FamilyOf (recursion_of b.recursion.now).family))
+-- the families of the recursions of below values are in the signature
+abbrev pub HaveBelowFamilies : Signature → List sides.BelowValue → Type 0
+HaveBelowFamilies S [] = Unit {0}
+HaveBelowFamilies S (b ∷ belows) = IsEntryAt S b.recursion.admission.number (FamilyOf b.recursion.family) × HaveBelowFamilies S belows
+
+abbrev pub HavePlaceFamilies : Signature → Place → Type 0
+HavePlaceFamilies S l = HaveBelowFamilies S (leaf_of l).belows
 
 abbrev pub descent_of : Descent → paths.Descent
 descent_of d = record {
@@ -57,3 +70,9 @@ descent_of d = record {
 -- arguments that are made, and none in the place of those that are too high
 abbrev pub arguments_of : List (Option code.Term) → List (Option Term)
 arguments_of arguments = map (option_map tree_of) arguments
+
+abbrev pub found_of : Found → spec.Found
+found_of Missing = spec.Missing
+found_of Elsewhere = spec.Elsewhere
+found_of TooHigh = spec.TooHigh
+found_of (At path) = spec.At (tree_of path)

@@ -74,7 +74,7 @@ fn with_first(alloc: Global, count: usize, terms: &[Term], mut made: Tele) -> Re
 }
 
 /// The first `count` of some terms.
-fn first_of(alloc: Global, count: usize, terms: &[Term]) -> Result<Tele, Stop>
+pub fn first_of(alloc: Global, count: usize, terms: &[Term]) -> Result<Tele, Stop>
     ensures { Gives tele_of result (Ok (take count (tele_of terms.now))) }
 {
     with_first(alloc, count, terms, Items::new(alloc))
@@ -145,34 +145,19 @@ pub fn scrutinee_at(alloc: Global, r: &Recursion, terms: &[Term]) -> Result<Tele
     terms_at(alloc, positions.as_slice(), terms)
 }
 
-/// `ps (F!motive F)`.
+/// `ps motive is x`.
 #[tactic(auto, using(tele_eq::proofs::Growing::growing))]
-pub fn parameters_and_motive(
-    alloc: Global,
-    naming: Naming,
-    plan: &Plan,
-    r: &Recursion,
-    terms: &[Term],
-) -> Result<Tele, Stop>
-    ensures { Gives tele_of result (Ok (spec.parameters_at (own_part (plan_of plan.now)).tele (recursion_of r.now) (tele_of terms.now) ++ spec.motive_at (naming_of naming.entry) (plan_of plan.now) (recursion_of r.now) (tele_of terms.now) ∷ [])) }
-{
-    let mut made = parameters_at(alloc, own_tele(plan), r, terms)?;
-    made.push(motive_at(alloc, naming, plan, r, terms)?)?;
-    Ok(made)
-}
-
-/// `ps (F!motive F) is x`.
-#[tactic(auto, using(tele_eq::proofs::Growing::listing))]
 fn below_arguments(
     alloc: Global,
-    naming: Naming,
     plan: &Plan,
     r: &Recursion,
+    motive: Term,
     terms: &[Term],
 ) -> Result<Tele, Stop>
-    ensures { Gives tele_of result (Ok (spec.parameters_at (own_part (plan_of plan.now)).tele (recursion_of r.now) (tele_of terms.now) ++ spec.motive_at (naming_of naming.entry) (plan_of plan.now) (recursion_of r.now) (tele_of terms.now) ∷ spec.scrutinee_at (recursion_of r.now) (tele_of terms.now))) }
+    ensures { Gives tele_of result (Ok (spec.parameters_at (own_part (plan_of plan.now)).tele (recursion_of r.now) (tele_of terms.now) ++ tree_of motive ∷ spec.scrutinee_at (recursion_of r.now) (tele_of terms.now))) }
 {
-    let made = parameters_and_motive(alloc, naming, plan, r, terms)?;
+    let mut made = parameters_at(alloc, own_tele(plan), r, terms)?;
+    made.push(motive)?;
     let scrutinee = scrutinee_at(alloc, r, terms)?;
     with_terms(alloc, made, scrutinee.as_slice())
 }
@@ -185,7 +170,23 @@ fn below_constant(alloc: Global, naming: Naming, plan: &Plan, r: &Recursion) -> 
     constant(naming, &name)
 }
 
-/// The type of the below value: `D!below.L ps (F!motive F) is x`.
+/// The type of the below value of a motive: `D!below.L ps motive is x`.
+pub fn below_with(
+    alloc: Global,
+    naming: Naming,
+    plan: &Plan,
+    r: &Recursion,
+    motive: Term,
+    terms: &[Term],
+) -> Result<Term, Stop>
+    ensures { Gives tree_of result (Ok (spec.below_with (naming_of naming.entry) (plan_of plan.now) (recursion_of r.now) (tree_of motive) (tele_of terms.now))) }
+{
+    let head = below_constant(alloc, naming, plan, r)?;
+    let arguments = below_arguments(alloc, plan, r, motive, terms)?;
+    applied(alloc, head, arguments.into_vec())
+}
+
+/// `D!below.L ps (F!motive F) is x`.
 pub fn below_type(
     alloc: Global,
     naming: Naming,
@@ -195,7 +196,6 @@ pub fn below_type(
 ) -> Result<Term, Stop>
     ensures { Gives tree_of result (Ok (spec.below_type (naming_of naming.entry) (plan_of plan.now) (recursion_of r.now) (tele_of terms.now))) }
 {
-    let head = below_constant(alloc, naming, plan, r)?;
-    let arguments = below_arguments(alloc, naming, plan, r, terms)?;
-    applied(alloc, head, arguments.into_vec())
+    let motive = motive_at(alloc, naming, plan, r, terms)?;
+    below_with(alloc, naming, plan, r, motive, terms)
 }

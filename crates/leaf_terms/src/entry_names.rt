@@ -6,7 +6,7 @@ use core_terms::{Name, Stop, copy_name};
 use std::alloc::Global;
 
 /// A function's name with a mark after it.
-fn marked(alloc: Global, function: &Name, mark: &[u8]) -> Result<Vec<u8>, Stop>
+pub fn marked(alloc: Global, function: &Name, mark: &[u8]) -> Result<Vec<u8>, Stop>
     ensures { Gives (λ v. v.items) result (Ok (function.now ++ mark.now)) }
 {
     let mut text = function.as_slice().to_vec(alloc)?;

@@ -1,5 +1,4 @@
-ghost use Rattle.std.specs.Prelude.{◌≡◌, [], IfOk, Ok, get_or, map, option_and_then, option_map};
-ghost use Rattle.std.specs.Option.{option_copied};
+ghost use Rattle.std.specs.Prelude.{◌≡◌, [], IfOk, Ok, get_or, map};
 ghost use Rattle.core_terms.specs.Answers.{Gives, and_then};
 ghost use Rattle.core_terms.specs.Meanings.{tree_of, tele_of};
 ghost use Rattle.core_terms.specs.TreeMeanings.{walk_of};
@@ -8,17 +7,18 @@ ghost use Rattle.tree_translation.specs.RightSides as sides;
 ghost use Rattle.tree_translation.specs.Standings as standings;
 ghost use Rattle.run_terms.specs.CodeNaming.{naming_of};
 ghost use Rattle.leaf_terms.specs.CodeRightSides as spec;
-ghost use Rattle.leaf_terms.specs.PlaceMeanings.{HasFamily, HasPlaceFamily, below_of, leaf_of, translation_of};
+ghost use Rattle.leaf_terms.specs.PlaceMeanings.{HaveFamilies, HavePlaceFamilies, leaf_of, translation_of};
 ghost use Rattle.leaf_terms.specs.PlanMeanings.{part_of, plan_of};
-ghost use Rattle.leaf_terms.specs.RecursionMeanings.{recursion_of};
 
+use crate::below_values::with_belows;
+use crate::calls::term_or;
 use crate::mappings::{in_old_order, mapping};
 use crate::plan::{Part, Plan};
-use crate::recursion::Recursion;
-use crate::right_sides::{BelowValue, Place, term_or, with_calls};
+use crate::recursion::NamedRecursion;
+use crate::right_sides::{Place, with_calls};
 use crate::towers::low_or_deep;
 use core_sig::Signature;
-use core_terms::{Items, Stop, Tele, Term, Walk, head, variable};
+use core_terms::{Items, Stop, Tele, Term, Walk, head};
 use run_terms::{Naming, all_placed, instance, visible};
 use std::alloc::Global;
 
@@ -28,7 +28,7 @@ pub struct Translation<'a> {
     pub sig: &'a Signature,
     pub naming: Naming<'a>,
     pub plan: &'a Plan,
-    pub recursion: Option<&'a Recursion<'a>>,
+    pub recursions: &'a [NamedRecursion<'a>],
     pub part: &'a Part,
     pub order: &'a [u32],
 }
@@ -138,23 +138,8 @@ fn side_at(
     instance(alloc, values.as_slice(), side, 0)
 }
 
-/// The below value of a leaf, whose whole context has `n` variables.
-fn below_in<'a>(n: u32, hidden: &[u32], r: Option<&'a Recursion<'a>>) -> Option<BelowValue<'a>>
-    ensures below { option_map below_of result ≡ option_and_then (sides.below_in n hidden.now) (option_map recursion_of (option_copied r.entry)) }
-{
-    match r {
-        Some(recursion) => match hidden {
-            [] => None,
-            [p, ..] => Some(BelowValue {
-                recursion,
-                term: variable(n, *p),
-            }),
-        },
-        None => None,
-    }
-}
-
-/// A leaf in its whole context.
+/// A leaf in its whole context of `n` variables.
+#[tactic(auto, using(crate::proofs::BelowFamilies::families))]
 fn place_at<'a>(
     alloc: Global,
     w: &Translation<'a>,
@@ -163,19 +148,27 @@ fn place_at<'a>(
     hidden: &[u32],
     terms: &[Term],
 ) -> Result<Place<'a>, Stop>
-    requires { HasFamily w.now.sig.now (translation_of w.now).recursion }
-    ensures place { Gives leaf_of result (Ok (sides.place_with n hidden.now (translation_of w.now).recursion (standings.all_placed levels.now n (tele_of terms.now)))) }
-    ensures family { IfOk result (HasPlaceFamily w.now.sig.now) }
+    requires { HaveFamilies w.now.sig.now (translation_of w.now).recursions }
+    ensures place { Gives leaf_of result (Ok (sides.place_with (naming_of w.now.naming) n hidden.now (translation_of w.now).recursions (standings.all_placed levels.now n (tele_of terms.now)))) }
+    ensures family { IfOk result (HavePlaceFamilies w.now.sig.now) }
 {
-    Ok(Place {
-        terms: all_placed(alloc, levels, n, terms, Items::new(alloc))?,
-        below: below_in(n, hidden, w.recursion),
-    })
+    let terms = all_placed(alloc, levels, n, terms, Items::new(alloc))?;
+    let belows = with_belows(
+        alloc,
+        w.naming,
+        n,
+        hidden,
+        terms.as_slice(),
+        Items::new(alloc),
+        w.recursions,
+        Vec::new(alloc),
+    )?;
+    Ok(Place { terms, belows })
 }
 
 /// A right side at a leaf with all calls in it, or Deep where it is too high.
 fn made_in(alloc: Global, w: &Translation, place: &Place, side: &Term) -> Result<Term, Stop>
-    requires { HasPlaceFamily w.now.sig.now place.now }
+    requires { HavePlaceFamilies w.now.sig.now place.now }
     ensures { Gives tree_of result (and_then (spec.calls_made (naming_of w.now.naming) (plan_of w.now.plan.now) (leaf_of place.now) 0 [] (tree_of side.now)) spec.low_or_deep) }
 {
     let made = with_calls(alloc, w, place, 0, Vec::new(alloc), side)?;
@@ -194,8 +187,8 @@ fn leaf_with(
     terms: &[Term],
     binds: &[Term],
 ) -> Result<Term, Stop>
-    requires { HasFamily w.now.sig.now (translation_of w.now).recursion }
-    ensures { Gives tree_of result (spec.leaf_with (naming_of w.now.naming) (plan_of w.now.plan.now) (translation_of w.now).recursion (part_of w.now.part.now) w.now.order.now levels.now n hidden.now clause (tele_of substitution.now) (tele_of terms.now) (tele_of binds.now)) }
+    requires { HaveFamilies w.now.sig.now (translation_of w.now).recursions }
+    ensures { Gives tree_of result (spec.leaf_with (naming_of w.now.naming) (plan_of w.now.plan.now) (translation_of w.now).recursions (part_of w.now.part.now) w.now.order.now levels.now n hidden.now clause (tele_of substitution.now) (tele_of terms.now) (tele_of binds.now)) }
 {
     let side = side_at(alloc, w, levels, n, clause, substitution, terms, binds)?;
     let place = place_at(alloc, w, levels, n, hidden, terms)?;
@@ -203,9 +196,9 @@ fn leaf_with(
 }
 
 /// The term of a leaf over its whole context of `n` variables, of which some are hidden: the right side of its clause,
-/// with the leaf's terms for the clause's variables, where each call of the function is a path in the below value. Deep
-/// where it is too high, where there is a call and the leaf's term for the decreasing argument is too high, or where
-/// the decreasing argument of a call is itself the call of a path that is too high.
+/// with the leaf's terms for the clause's variables, where each call of the function is a path in a below value. Deep
+/// where it is too high, where there is a call and the leaf's term for a decreasing argument is too high, or where the
+/// decreasing argument of a call is itself the call of a path that is too high.
 pub fn leaf_term(
     alloc: Global,
     w: &Translation,
@@ -216,8 +209,8 @@ pub fn leaf_term(
     terms: &[Term],
     binds: &[Term],
 ) -> Result<Term, Stop>
-    requires { HasFamily w.now.sig.now (translation_of w.now).recursion }
-    ensures { Gives tree_of result (spec.leaf_made (naming_of w.now.naming) (plan_of w.now.plan.now) (translation_of w.now).recursion (part_of w.now.part.now) w.now.order.now n hidden.now clause (tele_of substitution.now) (tele_of terms.now) (tele_of binds.now)) }
+    requires { HaveFamilies w.now.sig.now (translation_of w.now).recursions }
+    ensures { Gives tree_of result (spec.leaf_made (naming_of w.now.naming) (plan_of w.now.plan.now) (translation_of w.now).recursions (part_of w.now.part.now) w.now.order.now n hidden.now clause (tele_of substitution.now) (tele_of terms.now) (tele_of binds.now)) }
 {
     let levels = visible(alloc, n, hidden)?;
     leaf_with(

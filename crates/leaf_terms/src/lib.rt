@@ -4,6 +4,8 @@
 
 mod applying;
 mod below_types;
+mod below_values;
+mod calls;
 mod entry_names;
 pub mod laws;
 mod leaves;
@@ -16,8 +18,11 @@ mod recursion;
 mod right_sides;
 mod towers;
 
-pub use below_types::{below_type, copied_at, motive_at, parameters_at, scrutinee_at, terms_at};
-pub use entry_names::{helper_name, motive_name, part_name, step_name};
+pub use below_types::{
+    below_type, below_with, copied_at, motive_at, parameters_at, scrutinee_at, terms_at,
+};
+pub use below_values::{after_first, motive_with};
+pub use entry_names::{helper_name, marked, motive_name, part_name, step_name};
 pub use leaves::{Translation, leaf_term};
 pub use mappings::{in_old_order, mapping};
 pub use numbering::numbered;
@@ -26,4 +31,6 @@ pub use orders::{
     remaining_positions,
 };
 pub use plan::{Part, Plan, no_part};
-pub use recursion::{Recursion, own_tele, recursion_at, recursion_of};
+pub use recursion::{
+    NamedRecursion, Recursion, own_tele, recursion_at, recursion_of, recursions_named, with_family,
+};

@@ -8,7 +8,7 @@ ghost use Rattle.theory.specs.Signatures.{FamilyOf, IsEntryAt};
 ghost use Rattle.theory.specs.Terms as tree;
 ghost use Rattle.case_below_gen.specs.Paths as paths;
 ghost use Rattle.leaf_terms.specs.CodeRightSides as spec;
-ghost use Rattle.leaf_terms.specs.PlaceMeanings.{descent_of};
+ghost use Rattle.leaf_terms.specs.PlaceMeanings.{descent_of, found_of};
 
 use case_below_gen::below_path;
 use core_sig::{Family, Signature};
@@ -63,40 +63,48 @@ fn path_to(
     )
 }
 
-/// The path to a strict part of a term in a below value for the term, or the below value itself where it is no strict part. None where
-/// the path is too high.
-fn found_or_below(
+/// Where the argument of a call is looked for in a below value: the argument is itself too high, it is no strict part of the leaf's term,
+/// the path to it is too high, or there is a path.
+#[derive(Drop)]
+pub enum Found {
+    Missing,
+    Elsewhere,
+    TooHigh,
+    At(Term),
+}
+
+/// A strict part of a term is looked for.
+fn found_in(
     alloc: Global,
     sig: &Signature,
     d: &Descent,
     whole: &Term,
-    below: Term,
-) -> Result<Option<Term>, Stop>
+    below: &Term,
+) -> Result<Found, Stop>
     requires { IsEntryAt sig.now d.now.fam (FamilyOf (family_of d.now.family.now)) }
-    ensures { Gives (option_map tree_of) result (Ok (spec.or_below (tree_of below) (paths.path_to (descent_of d.now) (tree_of whole.now) (tree_of below)))) }
+    ensures { Gives found_of result (Ok (spec.found_by (paths.path_to (descent_of d.now) (tree_of whole.now) (tree_of below.now)))) }
 {
-    match path_to(alloc, sig, d, whole, &below) {
-        Ok(Some(path)) => Ok(Some(path)),
-        Ok(None) => Ok(Some(below)),
+    match path_to(alloc, sig, d, whole, below) {
+        Ok(Some(path)) => Ok(Found::At(path)),
+        Ok(None) => Ok(Found::Elsewhere),
         Err(Stop::Memory) => Err(Stop::Memory),
-        Err(_) => Ok(None),
+        Err(_) => Ok(Found::TooHigh),
     }
 }
 
-/// The path to a strict part of a term in a below value for the term, or the below value itself where it is no strict
-/// part. None where the path is too high, and Deep where the term is.
-pub fn path_or_below(
+/// A strict part of a term is looked for. Deep where the term is too high.
+pub fn found_for(
     alloc: Global,
     sig: &Signature,
     d: &Descent,
     whole: &Term,
-    below: Term,
-) -> Result<Option<Term>, Stop>
+    below: &Term,
+) -> Result<Found, Stop>
     requires { IsEntryAt sig.now d.now.fam (FamilyOf (family_of d.now.family.now)) }
-    ensures { Gives (option_map tree_of) result (spec.path_made (descent_of d.now) (tree_of whole.now) (tree_of below)) }
+    ensures { Gives found_of result (spec.found_for (descent_of d.now) (tree_of whole.now) (tree_of below.now)) }
 {
     if whole.height() > MAX_HEIGHT {
         return Err(Stop::Deep);
     }
-    found_or_below(alloc, sig, d, whole, below)
+    found_in(alloc, sig, d, whole, below)
 }

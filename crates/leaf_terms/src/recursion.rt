@@ -1,4 +1,5 @@
-ghost use Rattle.std.specs.Prelude.{◌≡◌, Ok, option_map};
+ghost use Rattle.std.specs.Prelude.{◌≡◌, Ok, map, option_map};
+ghost use Rattle.std.specs.Option.{option_copied};
 ghost use Rattle.core_terms.specs.Answers.{Gives};
 ghost use Rattle.core_terms.specs.Meanings.{tele_of};
 ghost use Rattle.kernel_reduce.specs.Entries.{family_at};
@@ -8,11 +9,11 @@ ghost use Rattle.tree_translation.specs.Plans.{own_part};
 ghost use Rattle.tree_translation.specs.Recursion as spec;
 ghost use Rattle.leaf_terms.specs.PlanMeanings.{plan_of};
 ghost use Rattle.leaf_terms.specs.RecursionMade.{recursion_at_made, recursion_made};
-ghost use Rattle.leaf_terms.specs.RecursionMeanings.{recursion_of};
+ghost use Rattle.leaf_terms.specs.RecursionMeanings.{named_of, recursion_of};
 
 use crate::plan::Plan;
 use core_sig::{Family, Signature};
-use core_terms::{Stop, Term};
+use core_terms::{Name, Stop, Term};
 use kernel_reduce::family;
 use run_terms::small_terms;
 use std::alloc::Global;
@@ -27,6 +28,34 @@ pub struct Recursion<'a> {
     pub family: &'a Family,
 }
 
+/// One of the recursions of a function, each inside those before it: the name of its motive, which is over the fixed terms, and the places
+/// of the earlier below values among these.
+#[derive(Clone, Copy)]
+pub struct NamedRecursion<'a> {
+    pub recursion: &'a Recursion<'a>,
+    pub motive: &'a Name,
+    pub places: &'a [u32],
+}
+
+/// Recursion at one position, if there is recursion, with a motive of this name.
+pub fn recursions_named<'a>(
+    alloc: Global,
+    motive: &'a Name,
+    r: Option<&'a Recursion<'a>>,
+) -> Result<Vec<NamedRecursion<'a>>, Stop>
+    ensures { Gives (λ v. map named_of v.items) result (Ok (spec.recursions_named motive.now (option_map recursion_of (option_copied r.entry)))) }
+{
+    let mut made = Vec::new(alloc);
+    if let Some(recursion) = r {
+        made.push(NamedRecursion {
+            recursion,
+            motive,
+            places: &[],
+        })?;
+    }
+    Ok(made)
+}
+
 /// The telescope of a function's own part.
 pub fn own_tele(plan: &Plan) -> &[Term]
     ensures { tele_of result.now ≡ (own_part (plan_of plan.now)).tele }
@@ -38,7 +67,7 @@ pub fn own_tele(plan: &Plan) -> &[Term]
 }
 
 /// Recursion at position `j`, with its fixed positions and its indices, where its family is known.
-fn with_family<'a>(sig: &'a Signature, j: u32, admission: Admission) -> Option<Recursion<'a>>
+pub fn with_family<'a>(sig: &'a Signature, j: u32, admission: Admission) -> Option<Recursion<'a>>
     ensures { option_map recursion_of result ≡ option_map (spec.recursion_with j (admission_of admission)) (family_at sig.now (admission_of admission).number) }
 {
     match family(sig, admission.number) {

@@ -3,5 +3,8 @@ pub mod FittingPairs
 pub mod Following
 pub mod Meanings
 pub mod PairChoices
+pub mod PairConditions
+pub mod PairEntries
 pub mod PairLaws
+pub mod PairPlans
 pub mod Pairs

@@ -18,7 +18,7 @@ use tree_translation::structural_rec::{
 };
 
 /// The admission at position `k`, if it follows the first positions.
-pub(crate) fn following(
+pub fn following(
     alloc: Global,
     sig: &Signature,
     tele: &[Term],

@@ -6,7 +6,7 @@ mod choice;
 mod choosing;
 mod failing;
 mod fitting;
-mod following;
+pub mod following;
 pub mod laws;
 
 pub use choice::{FailingPair, PairChoice};

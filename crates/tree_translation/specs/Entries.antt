@@ -14,7 +14,7 @@ use Rattle.tele_eq.specs.Levels.{place_in}
 use Rattle.tree_translation.specs.Naming.{Naming, drafted_in_order, below_name, rec_name, motive_name, step_name, helper_name}
 use Rattle.tree_translation.specs.Splits.{Node}
 use Rattle.tree_translation.specs.Plans.{Plan, Part, own_part}
-use Rattle.tree_translation.specs.Recursion.{Recursion, recursion_of, first_positions, order_of, remaining_positions, ordered_telescope, ordered_term, terms_at, parameters_at, motive_at, scrutinee_at, below_type}
+use Rattle.tree_translation.specs.Recursion.{Recursion, recursion_of, first_positions, order_of, remaining_positions, ordered_telescope, ordered_term, terms_at, parameters_at, motive_at, NamedRecursion, recursions_in, scrutinee_at, below_type}
 use Rattle.tree_translation.specs.TreeTerms.{tree_term, tree_names}
 
 -- how many helpers there are
@@ -31,10 +31,13 @@ abbrev pub side_names : Plan → Option Recursion → (at : ℕ) → List (List 
 side_names plan None at = helper_names plan at
 side_names plan (Some r) at = below_name r.family plan.level ∷ motive_name plan.name ∷ helper_names plan at
 
--- the tree of a part in an order, at a node
+-- the tree of a part in an order, at a node whose hidden variables are the below values of these recursions
+abbrev pub term_with : Signature → Plan → List NamedRecursion → Part → (order : List ℕ) → Node → Naming → Term
+term_with S plan recursions part order node number =
+    tree_term (record { signature = S; number = number; plan = plan; recursions = recursions; part = part; order = order }) part.tree node
+
 abbrev pub part_term : Signature → Plan → Option Recursion → Part → (order : List ℕ) → Node → Naming → Term
-part_term S plan r part order node number =
-    tree_term (record { signature = S; number = number; plan = plan; recursion = r; part = part; order = order }) part.tree node
+part_term S plan r part order node number = term_with S plan (recursions_in plan r) part order node number
 
 -- ---- a telescope with the below value after some of its variables
 

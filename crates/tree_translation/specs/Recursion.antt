@@ -71,12 +71,41 @@ parameters_at tele r terms =
 abbrev pub motive_at : Naming → Plan → Recursion → List Term → Term
 motive_at number plan r terms = applied (Const (number (motive_name plan.name))) (terms_at r.admission.fixed terms)
 
+-- One of the recursions of a function, each inside those before it: the name of its motive, which is over the fixed terms, and the places
+-- of the earlier below values among these.
+pub record NamedRecursion : Type 0 where
+  pub recursion : Recursion
+  pub motive : List ℕ
+  pub places : List ℕ
+
+-- recursion at one position, if there is recursion: its motive is over the fixed terms alone
+abbrev pub recursions_named : (motive : List ℕ) → Option Recursion → List NamedRecursion
+recursions_named motive None = []
+recursions_named motive (Some r) = record { recursion = r; motive = motive; places = [] } ∷ []
+
+abbrev pub recursions_in : Plan → Option Recursion → List NamedRecursion
+recursions_in plan r = recursions_named (motive_name plan.name) r
+
+-- terms with values put in at these places, one after the other
+abbrev pub with_values : (places : List ℕ) (values terms : List Term) → List Term
+with_values (p ∷ places) (v ∷ values) terms = with_values places values (take p terms ++ v ∷ drop p terms)
+with_values _ _ terms = terms
+
+-- the motive of a recursion, at terms of the function's telescope and the earlier below values
+abbrev pub motive_with : Naming → NamedRecursion → (terms values : List Term) → Term
+motive_with number c terms values =
+    applied (Const (number c.motive)) (with_values c.places values (terms_at c.recursion.admission.fixed terms))
+
 -- is, x
 abbrev pub scrutinee_at : Recursion → List Term → List Term
 scrutinee_at r terms = terms_at (r.admission.indices ++ r.position ∷ []) terms
 
--- the type of the below value: D!below.L ps (F!motive F) is x
-abbrev pub below_type : Naming → Plan → Recursion → List Term → Term
-below_type number plan r terms =
+-- the type of the below value of a motive: D!below.L ps motive is x
+abbrev pub below_with : Naming → Plan → Recursion → (motive : Term) → List Term → Term
+below_with number plan r motive terms =
     applied (Const (number (below_name r.family plan.level)))
-    (parameters_at (own_part plan).tele r terms ++ motive_at number plan r terms ∷ scrutinee_at r terms)
+    (parameters_at (own_part plan).tele r terms ++ motive ∷ scrutinee_at r terms)
+
+-- D!below.L ps (F!motive F) is x
+abbrev pub below_type : Naming → Plan → Recursion → List Term → Term
+below_type number plan r terms = below_with number plan r (motive_at number plan r terms) terms

@@ -1,6 +1,6 @@
--- The right side at a leaf: the clause's term with the leaf's bindings, in which each call of the function is a path in the below
--- value, and each call of a helper is one of its entry, with the below value.
-use Rattle.std.specs.Prelude.{ℕ, ◌+◌, ◌-◌, ◌==◌, nat_lt, Bool, false, cond, Option, Some, None, List, [], ◌∷◌, ◌++◌, drop, get_or}
+-- The right side at a leaf: the clause's term with the leaf's bindings, in which each call of the function is a path in a below value,
+-- and each call of a helper is one of its entry, with the below values.
+use Rattle.std.specs.Prelude.{ℕ, ◌+◌, ◌-◌, ◌==◌, nat_lt, Bool, false, cond, List, [], ◌∷◌, ◌++◌, map, drop, get_or}
 use Rattle.theory.specs.Terms.{Term, Var, Sort, Pi, Lam, App, Let, Const, lift}
 use Rattle.theory.specs.Substitutions.{inst, fill}
 use Rattle.theory.specs.Telescopes.{applied}
@@ -18,56 +18,71 @@ use Rattle.tree_translation.specs.Hidden.{visible}
 use Rattle.tree_translation.specs.RunTerms.{no_term}
 use Rattle.tree_translation.specs.Mappings.{mapping, in_old_order}
 use Rattle.tree_translation.specs.Plans.{Plan, Part}
-use Rattle.tree_translation.specs.Recursion.{Recursion, motive_at, remaining_positions, terms_at}
+use Rattle.tree_translation.specs.Recursion.{NamedRecursion, Recursion, motive_with, remaining_positions, terms_at}
 
--- A leaf in its whole context: the terms of its columns there, and the below value, with recursion.
+-- A below value at a leaf: its recursion, the motive there, and the value.
+pub record BelowValue : Type 0 where
+  pub recursion : Recursion
+  pub motive : Term
+  pub value : Term
+
+-- under more binders
+abbrev pub below_under : (under : ℕ) → BelowValue → BelowValue
+below_under under b = record { recursion = b.recursion; motive = lift b.motive under 0; value = lift b.value under 0 }
+
+-- A leaf in its whole context: the terms of its columns there, and the below values, one for each recursion.
 pub record Place : Type 0 where
   pub terms : List Term
-  pub recursion : Option (Recursion × Term)
+  pub belows : List BelowValue
 
--- the descent to a part, under binders
-abbrev pub descent_at : Naming → Plan → Recursion → (terms : List Term) → (part : Term) → Descent
-descent_at number plan r terms part = record {
-  family = r.admission.number;
-  shape = family_shape r.admission.number r.family;
+-- the descent to a part
+abbrev pub descent_at : Naming → Plan → BelowValue → (part : Term) → Descent
+descent_at number plan b part = record {
+  family = b.recursion.admission.number;
+  shape = family_shape b.recursion.admission.number b.recursion.family;
   m = plan.level;
-  below = number (below_name r.family plan.level);
-  motive = motive_at number plan r terms;
+  below = number (below_name b.recursion.family plan.level);
+  motive = b.motive;
   part = part;
 }
 
--- the path of a strict part of the leaf's term in the below value, or the below value itself
-abbrev pub path_or_below : Descent → (whole below : Term) → Term
-path_or_below d whole below = cond (has_part d.family d.shape d.part whole) (path_of d whole below) below
+-- a path in a below value, or the value itself, applied to the arguments of a call at R and any further ones
+abbrev pub applied_path : Plan → Recursion → (arguments : List Term) → (path : Term) → Term
+applied_path plan r arguments path =
+    applied path (terms_at (remaining_positions plan.arity r) arguments ++ drop plan.arity arguments)
 
--- The call of the function with these arguments: the path for its argument at the position, applied to the arguments at R and any
--- further ones.
-abbrev pub call_by_path : Naming → Plan → Recursion → (terms : List Term) (below : Term) → (arguments : List Term) → Term
-call_by_path number plan r terms below arguments =
-    applied
-    (path_or_below (descent_at number plan r terms (term_at arguments r.position)) (term_at terms r.position) below)
-    (terms_at (remaining_positions plan.arity r) arguments ++ drop plan.arity arguments)
+-- The call of the function with these arguments: the path in the first of the below values at whose position the argument is a strict
+-- part of the leaf's term, or else the first below value itself.
+abbrev pub call_by_path : Naming → Plan → (terms : List Term) → (first : BelowValue) → (arguments : List Term) → List BelowValue → Term
+call_by_path number plan terms first arguments [] = applied_path plan first.recursion arguments first.value
+call_by_path number plan terms first arguments (b ∷ belows) =
+    let d = descent_at number plan b (term_at arguments b.recursion.position) in
+    let whole = term_at terms b.recursion.position in
+    cond (has_part d.family d.shape d.part whole) (applied_path plan b.recursion arguments (path_of d whole b.value))
+    (call_by_path number plan terms first arguments belows)
 
 -- without recursion there is no call, and no term is read here
-abbrev pub call_in : Naming → Plan → Place → (under : ℕ) → (arguments : List Term) → Option (Recursion × Term) → Term
-call_in number plan l under arguments None = no_term
-call_in number plan l under arguments (Some r) =
-    call_by_path number plan r.0 (lifted under l.terms) (lift r.1 under 0) arguments
+abbrev pub call_in : Naming → Plan → (terms : List Term) → (arguments : List Term) → List BelowValue → Term
+call_in number plan terms arguments [] = no_term
+call_in number plan terms arguments (b ∷ belows) = call_by_path number plan terms b arguments (b ∷ belows)
 
--- the below value, after the arguments of a helper
-abbrev pub below_behind : (under : ℕ) → Option (Recursion × Term) → List Term
-below_behind under None = []
-below_behind under (Some r) = lift r.1 under 0 ∷ []
+-- the below values under more binders
+abbrev pub belows_under : (under : ℕ) → List BelowValue → List BelowValue
+belows_under under belows = map (below_under under) belows
+
+-- the below values, after the arguments of a helper
+abbrev pub belows_behind : (under : ℕ) → List BelowValue → List Term
+belows_behind under belows = map (λ b. lift b.value under 0) belows
 
 abbrev pub helper_call : Naming → Plan → Place → (under k : ℕ) → (arguments : List Term) → Term
 helper_call number plan l under k arguments =
-    applied (Const (number (helper_name plan.name k))) (arguments ++ below_behind under l.recursion)
+    applied (Const (number (helper_name plan.name k))) (arguments ++ belows_behind under l.belows)
 
 -- a constant with its arguments: an entry before the function stays
 abbrev pub constant_at : Naming → Plan → Place → (under c : ℕ) → (arguments : List Term) → Term
 constant_at number plan l under c arguments =
     cond (nat_lt c plan.base) (applied (Const c) arguments)
-    (cond (c == plan.base) (call_in number plan l under arguments l.recursion)
+    (cond (c == plan.base) (call_in number plan (lifted under l.terms) arguments (belows_under under l.belows))
     (helper_call number plan l under (c - plan.base) arguments))
 
 -- a term under so many binders, applied to arguments, with all calls in it
@@ -103,20 +118,26 @@ values_at plan part order clause side substitution terms binds =
     (mapping (get_or part.walks clause no_walk) (in_old_order order substitution) terms)
     binds
 
--- Where a leaf is: its whole context has n variables, of which the below value, if there is one, is hidden.
-abbrev pub below_in : (n : ℕ) (hidden : List ℕ) → Recursion → Option (Recursion × Term)
-below_in n (p ∷ hidden) r = Some (r, Var (n - (p + 1)))
-below_in n [] r = None
+-- the below value at a level, among n variables
+abbrev pub value_with : Naming → (n p : ℕ) → (terms values : List Term) → NamedRecursion → BelowValue
+value_with number n p terms values c =
+    record { recursion = c.recursion; motive = motive_with number c terms values; value = Var (n - (p + 1)) }
 
-abbrev pub place_with : (n : ℕ) (hidden : List ℕ) → Option Recursion → List Term → Place
-place_with n hidden None terms = record { terms = terms; recursion = None }
-place_with n hidden (Some r) terms = record { terms = terms; recursion = below_in n hidden r }
+-- The below values of a leaf, whose whole context has n variables: the hidden variables, one for each recursion, each with the motive at
+-- the leaf's terms and the values before it.
+abbrev pub belows_in : Naming → (n : ℕ) (hidden : List ℕ) (terms values : List Term) → List NamedRecursion → List BelowValue
+belows_in number n (p ∷ hidden) terms values (c ∷ recursions) =
+    value_with number n p terms values c ∷ belows_in number n hidden terms (values ++ Var (n - (p + 1)) ∷ []) recursions
+belows_in number n _ terms values _ = []
+
+abbrev pub place_with : Naming → (n : ℕ) (hidden : List ℕ) → List NamedRecursion → List Term → Place
+place_with number n hidden recursions terms = record { terms = terms; belows = belows_in number n hidden terms [] recursions }
 
 -- the term of a leaf over its whole context of n variables
-abbrev pub leaf_term : Naming → Plan → Option Recursion → Part → (order : List ℕ) → (n : ℕ) (hidden : List ℕ)
+abbrev pub leaf_term : Naming → Plan → List NamedRecursion → Part → (order : List ℕ) → (n : ℕ) (hidden : List ℕ)
     → (clause : ℕ) → (substitution terms binds : List Term) → Term
-leaf_term number plan r part order n hidden clause substitution terms binds =
+leaf_term number plan recursions part order n hidden clause substitution terms binds =
     let levels = visible n hidden in
     let side = get_or part.sides clause (Sort 0) in
     let values = all_placed levels n (values_at plan part order clause side substitution terms binds) in
-    with_calls number plan (place_with n hidden r (all_placed levels n terms)) 0 [] (inst (fill no_variable values) side)
+    with_calls number plan (place_with number n hidden recursions (all_placed levels n terms)) 0 [] (inst (fill no_variable values) side)

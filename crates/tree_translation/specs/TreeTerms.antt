@@ -1,4 +1,4 @@
--- The term of a case tree, over the context from which it starts, with the hidden variable of the below value.
+-- The term of a case tree, over the context from which it starts, with the hidden variables of the below values.
 use Rattle.std.specs.Prelude.{ℕ, ◌+◌, Option, Some, None, List, [], ◌∷◌, ◌++◌, length, slice_get}
 use Rattle.theory.specs.Terms.{Term}
 use Rattle.theory.specs.Families.{Constructor}
@@ -12,7 +12,7 @@ use Rattle.tree_translation.specs.Standings.{Standing}
 use Rattle.tree_translation.specs.Replays.{behind_run}
 use Rattle.tree_translation.specs.Splits.{Node, branch_standing, split_node, split_names}
 use Rattle.tree_translation.specs.Plans.{Plan, Part}
-use Rattle.tree_translation.specs.Recursion.{Recursion}
+use Rattle.tree_translation.specs.Recursion.{NamedRecursion}
 use Rattle.tree_translation.specs.RightSides.{leaf_term}
 
 -- the common parts of the leaves of a tree
@@ -20,7 +20,7 @@ pub record Translation : Type 0 where
   pub signature : Signature
   pub number : Naming
   pub plan : Plan
-  pub recursion : Option Recursion
+  pub recursions : List NamedRecursion
   pub part : Part
   pub order : List ℕ
 
@@ -57,7 +57,7 @@ abbrev mutual
   -- the term of a tree at a node
   pub tree_term : Translation → Tree → Node → Term
   tree_term w (tree.Leaf clause context goal substitution terms binds) node =
-      leaf_term w.number w.plan w.recursion w.part w.order (length node.context) node.hidden clause substitution terms binds
+      leaf_term w.number w.plan w.recursions w.part w.order (length node.context) node.hidden clause substitution terms binds
   tree_term w (tree.Split context x n type branches) node =
       split_node w.signature w.number w.part.level node (variable_in node x) (type_in node type) (runs_of branches)
       (branch_ends w branches node (variable_in node x) (member_of w.signature (type_in node type)) 0)

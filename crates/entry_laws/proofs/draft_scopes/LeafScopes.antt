@@ -1,5 +1,5 @@
 -- The leaves of a plan's part have scoped terms.
-use Rattle.std.proofs.Common.{◌≡◌, inl, inr, ℕ, zero, suc, ◌+◌, ◌<◌, ◌≤◌, nat_lt, Bool, true, false, cond, Option, Some, None, List, [], ◌∷◌, length, get_or, slice_get, All, refl, sym, subst, ◌∙◌, arith}
+use Rattle.std.proofs.Common.{◌≡◌, inl, inr, ℕ, zero, suc, ◌+◌, ◌<◌, ◌≤◌, nat_lt, Bool, true, false, cond, Some, List, [], ◌∷◌, ◌++◌, ◌-◌, length, get_or, slice_get, All, refl, sym, subst, ◌∙◌, arith}
 use Rattle.std.proofs.lemmas.Bool.Decides.{nat_tests}
 use Rattle.std.proofs.lemmas.Option.{slice_get-get_or, get_or_from_slice_get}
 use Rattle.theory.specs.Terms.{Term, Var, Sort, Pi, Lam, App, Let, Const, Fam, Con, Elim, AxiomK}
@@ -23,17 +23,16 @@ use Rattle.tree_translation.specs.Conditions.{with_function, IsSide}
 use Rattle.tree_translation.specs.Hidden.{visible}
 use Rattle.tree_translation.specs.Naming.{Naming, helper_name}
 use Rattle.tree_translation.specs.Plans.{Plan, Part}
-use Rattle.tree_translation.specs.Recursion.{Recursion}
-use Rattle.tree_translation.specs.RightSides.{Place, is_helper, no_walk, values_at, below_in, place_with, leaf_term}
+use Rattle.tree_translation.specs.Recursion.{NamedRecursion}
+use Rattle.tree_translation.specs.RightSides.{Place, is_helper, no_walk, values_at, belows_in, place_with, leaf_term}
 use Rattle.tree_translation.specs.Mappings.{mapping, in_old_order}
 use Rattle.tree_translation.specs.Splits.{Node}
 use Rattle.tree_translation.specs.Standings.{all_placed, placed}
 use Rattle.tree_translation.proofs.SeenTerms.{visible-below}
-use Rattle.entry_laws.proofs.OnlyConstants.{Each, each-all, each-map, each-weaker}
+use Rattle.entry_laws.proofs.OnlyConstants.{Each, each-all, each-append, each-map, each-weaker}
 use Rattle.entry_laws.proofs.OnlyEntries.{IsPart}
-use Rattle.entry_laws.proofs.OnlyStates.{OptionOnly}
 use Rattle.entry_laws.proofs.TableNames.{all-each}
-use Rattle.entry_laws.proofs.entry_scopes.WholeLeaves.{IsOver, over-same, over-inst, scoped-over, mapping-there, order-there, RecursionIn, PlaceIn, CalledIn, called-entry, called-function, called-helper, calls-there}
+use Rattle.entry_laws.proofs.entry_scopes.WholeLeaves.{IsOver, over-same, over-inst, scoped-over, mapping-there, order-there, NamedIn, BelowIn, motive-there, PlaceIn, CalledIn, called-entry, called-function, called-helper, calls-there}
 use Rattle.entry_laws.proofs.entry_scopes.WholeStandings.{placed-scoped}
 use Rattle.entry_laws.proofs.entry_scopes.WholeTrees.{IsTreeNode}
 use Rattle.entry_laws.proofs.draft_scopes.FunctionSignatures.{which-constant}
@@ -111,21 +110,27 @@ module _ (S T : Signature) (more : HasNumbers S T) (number : Naming) (plan : Pla
 
   -- ---- leaves
 
-  place-in : (n : ℕ) (hidden : List ℕ) (o : Option Recursion) (terms : List Term) → AreBelow n hidden → OptionOnly (RecursionIn T number plan) o → Each (IsScoped T n) terms
-      → PlaceIn T number plan n (place_with n hidden o terms)
-  place-in n hidden None terms below ho all = record { terms = all; recursion = tt }
-  place-in n hidden (Some r) terms below ho all = record { terms = all; recursion = by hidden below }
-    where
-      by : (levels : List ℕ) → AreBelow n levels → OptionOnly (λ r. RecursionIn T number plan r.0 × IsScoped T n r.1) (below_in n levels r)
-      by [] h = tt
-      by (p ∷ levels) h = let low = h.0 in (ho, var-scoped (omega arith))
+  belows-there : (n : ℕ) (hidden : List ℕ) (terms values : List Term) (recursions : List NamedRecursion) → AreBelow n hidden → Each (NamedIn T number plan) recursions
+      → Each (IsScoped T n) terms → Each (IsScoped T n) values → Each (BelowIn T number plan n) (belows_in number n hidden terms values recursions)
+  belows-there n (p ∷ hidden) terms values (c ∷ recursions) below (Each.more h all) ht hv =
+      let low = below.0 in
+      let value : IsScoped T n (Var (n - (p + 1))) = var-scoped (omega arith) in
+      Each.more
+      (record { below = h.below; pairs = h.pairs; shape = h.shape; motive = motive-there T number plan n c terms values h.motive ht hv; value = value })
+      (belows-there n hidden terms (values ++ Var (n - (p + 1)) ∷ []) recursions below.1 all ht (each-append values (Var (n - (p + 1)) ∷ []) hv (Each.more value Each.none)))
+  belows-there n (p ∷ hidden) terms values [] below all ht hv = Each.none
+  belows-there n [] terms values recursions below all ht hv = Each.none
 
-  pub leaf-there : (numbers : HasNumbers (with_function S plan) T) (at : ℕ) (part : Part) (o : Option Recursion) (order : List ℕ) → IsPart S plan at part
-      → ((k : ℕ) (helper : Part) → slice_get plan.parts k ≡ Some helper → at < k → IsConstantNumber T (number (helper_name plan.name k))) → OptionOnly (RecursionIn T number plan) o
+  place-in : (n : ℕ) (hidden : List ℕ) (recursions : List NamedRecursion) (terms : List Term) → AreBelow n hidden → Each (NamedIn T number plan) recursions → Each (IsScoped T n) terms
+      → PlaceIn T number plan n (place_with number n hidden recursions terms)
+  place-in n hidden recursions terms below hr all = record { terms = all; belows = belows-there n hidden terms [] recursions below hr all Each.none }
+
+  pub leaf-there : (numbers : HasNumbers (with_function S plan) T) (at : ℕ) (part : Part) (recursions : List NamedRecursion) (order : List ℕ) → IsPart S plan at part
+      → ((k : ℕ) (helper : Part) → slice_get plan.parts k ≡ Some helper → at < k → IsConstantNumber T (number (helper_name plan.name k))) → Each (NamedIn T number plan) recursions
       → (node : Node) (i : ℕ) (context : Telescope) (goal : Term) (substitution terms binds : List Term) → IsTreeNode T node context
       → IsScopedLeaf (with_function S plan) context goal substitution terms binds
-      → IsScoped T (length node.context) (leaf_term number plan o part order (length node.context) node.hidden i substitution terms binds)
-  leaf-there numbers at part o order p helpers ho node i context goal substitution terms binds is leaf =
+      → IsScoped T (length node.context) (leaf_term number plan recursions part order (length node.context) node.hidden i substitution terms binds)
+  leaf-there numbers at part recursions order p helpers hr node i context goal substitution terms binds is leaf =
       let F = with_function S plan in
       let n = length node.context in
       let m = length context in
@@ -136,9 +141,9 @@ module _ (S T : Signature) (more : HasNumbers S T) (number : Naming) (plan : Pla
       let ht = each-all (IsScoped F m) terms leaf.terms in
       let hb = each-all (IsScoped F m) binds leaf.binds in
       let place_terms = all_placed levels n terms in
-      let place = place_with n node.hidden o place_terms in
+      let place = place_with number n node.hidden recursions place_terms in
       let there : PlaceIn T number plan n place =
-      place-in n node.hidden o place_terms is.over.hidden ho (each-weaker place_terms (λ t k. scoped-wider numbers k) (placed-there n node.hidden context terms is.over.is_seen.count ht)) in
+      place-in n node.hidden recursions place_terms is.over.hidden hr (each-weaker place_terms (λ t k. scoped-wider numbers k) (placed-there n node.hidden context terms is.over.is_seen.count ht)) in
       let placed_values = all_placed levels n values in
       let over_values : Each (IsOver T (CalledIn T number plan n place) n) placed_values =
       each-weaker placed_values (λ t k. scoped-over F T n t numbers (called-constant numbers n place there) k)

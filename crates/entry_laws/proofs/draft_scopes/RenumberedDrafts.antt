@@ -129,7 +129,7 @@ telescope-after S n (suc k) [] h = tt
 telescope-after S n (suc k) (a ∷ tele) h =
     telescope-same S (n + 1 + length (take k tele)) (n + suc (length (take k tele))) (drop k tele) (omega arith) (telescope-after S (n + 1) k tele h.1)
 
-length-split : (k : ℕ) (tele : Telescope) → length (take k tele) + length (drop k tele) ≡ length tele
+pub length-split : (k : ℕ) (tele : Telescope) → length (take k tele) + length (drop k tele) ≡ length tele
 length-split zero tele = omega arith
 length-split (suc k) [] = refl
 length-split (suc k) (a ∷ tele) = let e = length-split k tele in omega arith

@@ -1,5 +1,5 @@
 -- The term of a leaf is scoped, where the constants of its side are called with numbers of constants.
-use Rattle.std.proofs.Common.{◌≡◌, ℕ, zero, suc, ◌+◌, ◌-◌, ◌<◌, ◌==◌, Bool, true, false, cond, Option, Some, None, List, [], ◌∷◌, ◌++◌, length, drop, sym, subst, arith}
+use Rattle.std.proofs.Common.{◌≡◌, ℕ, zero, suc, ◌+◌, ◌-◌, ◌<◌, ◌==◌, Bool, true, false, cond, Option, Some, None, List, [], ◌∷◌, ◌++◌, length, take, drop, sym, subst, arith}
 use Rattle.std.specs.Option.{option_or}
 use Rattle.theory.specs.Terms.{Term, Var, Sort, Pi, Lam, App, Let, Const, Fam, Con, Elim, AxiomK, lift}
 use Rattle.theory.specs.Substitutions.{ren, up, inst, ups}
@@ -19,9 +19,9 @@ use Rattle.unification.proofs.Cases.{first-of_two, second-of_two}
 use Rattle.tree_translation.specs.Mappings.{have_one_constructor, found_in, found_along, found_among, or_sort, mapping, in_old_order}
 use Rattle.tree_translation.specs.Naming.{Naming, below_name, motive_name, helper_name}
 use Rattle.tree_translation.specs.Plans.{Plan}
-use Rattle.tree_translation.specs.Recursion.{Recursion, terms_at, motive_at, remaining_positions}
-use Rattle.tree_translation.specs.RightSides.{Place, descent_at, path_or_below, call_by_path, call_in, below_behind, helper_call, constant_at, with_calls}
-use Rattle.entry_laws.proofs.OnlyConstants.{Each, each-append, each-map, each-drop, each-get}
+use Rattle.tree_translation.specs.Recursion.{NamedRecursion, Recursion, terms_at, motive_with, with_values, recursions_in, remaining_positions}
+use Rattle.tree_translation.specs.RightSides.{BelowValue, Place, descent_at, applied_path, call_by_path, call_in, belows_under, belows_behind, helper_call, constant_at, with_calls}
+use Rattle.entry_laws.proofs.OnlyConstants.{Each, each-append, each-map, each-take, each-drop, each-get}
 use Rattle.entry_laws.proofs.OnlyStates.{OptionOnly}
 use Rattle.entry_laws.proofs.OnlyLeaves.{second-of-same, second-of-other}
 use Rattle.entry_laws.proofs.entry_scopes.WholePaths.{Constructors, scoped-path_of}
@@ -159,10 +159,29 @@ module _ (T : Signature) (number : Naming) (plan : Plan) where
     pub pairs : HasPairs T plan.level
     pub shape : Constructors T (family_shape r.admission.number r.family).constructors
 
+  -- likewise those that one of the recursions of a tree brings
+  pub record NamedIn (c : NamedRecursion) : Type 0 where
+    pub below : IsConstantNumber T (number (below_name c.recursion.family plan.level))
+    pub motive : IsConstantNumber T (number c.motive)
+    pub pairs : HasPairs T plan.level
+    pub shape : Constructors T (family_shape c.recursion.admission.number c.recursion.family).constructors
+
+  pub named-in : (o : Option Recursion) → OptionOnly RecursionIn o → Each NamedIn (recursions_in plan o)
+  named-in None h = Each.none
+  named-in (Some r) h = Each.more (record { below = h.below; motive = h.motive; pairs = h.pairs; shape = h.shape }) Each.none
+
+  -- a below value with its motive, over n variables
+  pub record BelowIn (n : ℕ) (b : BelowValue) : Type 0 where
+    pub below : IsConstantNumber T (number (below_name b.recursion.family plan.level))
+    pub pairs : HasPairs T plan.level
+    pub shape : Constructors T (family_shape b.recursion.admission.number b.recursion.family).constructors
+    pub motive : IsScoped T n b.motive
+    pub value : IsScoped T n b.value
+
   -- a leaf's place over n variables
   pub record PlaceIn (n : ℕ) (l : Place) : Type 0 where
     pub terms : Each (IsScoped T n) l.terms
-    pub recursion : OptionOnly (λ r. RecursionIn r.0 × IsScoped T n r.1) l.recursion
+    pub belows : Each (BelowIn n) l.belows
 
   pub some-terms : (d : ℕ) (positions : List ℕ) (terms : List Term) → Each (IsScoped T d) terms → Each (IsScoped T d) (terms_at positions terms)
   some-terms d [] terms all = Each.none
@@ -171,34 +190,72 @@ module _ (T : Signature) (number : Naming) (plan : Plan) where
   lifted-there : (n under : ℕ) (terms : List Term) → Each (IsScoped T n) terms → Each (IsScoped T (n + under)) (lifted under terms)
   lifted-there n under terms all = each-map (λ t. lift t under 0) terms (λ t h. lift-scoped T n t under 0 h) all
 
-  motive-there : (d : ℕ) (r : Recursion) (terms : List Term) → RecursionIn r → Each (IsScoped T d) terms → IsScoped T d (motive_at number plan r terms)
-  motive-there d r terms h all =
-      applied-each T d (Const (number (motive_name plan.name))) (terms_at r.admission.fixed terms) (const-scoped T d (number (motive_name plan.name)) h.motive)
-      (some-terms d r.admission.fixed terms all)
+  values-there : (d : ℕ) (places : List ℕ) (values terms : List Term) → Each (IsScoped T d) values → Each (IsScoped T d) terms
+      → Each (IsScoped T d) (with_values places values terms)
+  values-there d (p ∷ places) (v ∷ values) terms (Each.more h hv) ht =
+      values-there d places values (take p terms ++ v ∷ drop p terms) hv
+      (each-append (take p terms) (v ∷ drop p terms) (each-take p terms ht) (Each.more h (each-drop p terms ht)))
+  values-there d (p ∷ places) [] terms hv ht = ht
+  values-there d [] values terms hv ht = ht
 
-  path-there : (d : ℕ) (test : Bool) (path below : Term) → IsScoped T d path → IsScoped T d below → IsScoped T d (cond test path below)
-  path-there d true path below h k = h
-  path-there d false path below h k = k
+  -- the motive of a recursion at scoped terms and values
+  pub motive-there : (d : ℕ) (c : NamedRecursion) (terms values : List Term) → IsConstantNumber T (number c.motive) → Each (IsScoped T d) terms → Each (IsScoped T d) values
+      → IsScoped T d (motive_with number c terms values)
+  motive-there d c terms values named ht hv =
+      let fixed = terms_at c.recursion.admission.fixed terms in
+      applied-each T d (Const (number c.motive)) (with_values c.places values fixed) (const-scoped T d (number c.motive) named)
+      (values-there d c.places values fixed hv (some-terms d c.recursion.admission.fixed terms ht))
 
-  call-there : (d : ℕ) (r : Recursion) (terms : List Term) (below : Term) (arguments : List Term) → RecursionIn r → Each (IsScoped T d) terms → IsScoped T d below
-      → Each (IsScoped T d) arguments → IsScoped T d (call_by_path number plan r terms below arguments)
-  call-there d r terms below arguments h ht hb ha =
-      let descent = descent_at number plan r terms (term_at arguments r.position) in
-      let whole = term_at terms r.position in
-      applied-each T d (path_or_below descent whole below) _
-      (path-there d (has_part descent.family descent.shape descent.part whole) (path_of descent whole below) below
-      (scoped-path_of T d descent whole below
+  under-there : (n under : ℕ) (belows : List BelowValue) → Each (BelowIn n) belows → Each (BelowIn (n + under)) (belows_under under belows)
+  under-there n under [] Each.none = Each.none
+  under-there n under (b ∷ belows) (Each.more h all) =
+      Each.more
+      (record {
+        below = h.below;
+        pairs = h.pairs;
+        shape = h.shape;
+        motive = lift-scoped T n b.motive under 0 h.motive;
+        value = lift-scoped T n b.value under 0 h.value;
+      })
+      (under-there n under belows all)
+
+  applied-there : (d : ℕ) (r : Recursion) (arguments : List Term) (path : Term) → IsScoped T d path → Each (IsScoped T d) arguments
+      → IsScoped T d (applied_path plan r arguments path)
+  applied-there d r arguments path h ha =
+      applied-each T d path (terms_at (remaining_positions plan.arity r) arguments ++ drop plan.arity arguments) h
+      (each-append (terms_at (remaining_positions plan.arity r) arguments) (drop plan.arity arguments) (some-terms d (remaining_positions plan.arity r) arguments ha)
+      (each-drop plan.arity arguments ha))
+
+  cond-there : (d : ℕ) (test : Bool) (t u : Term) → IsScoped T d t → IsScoped T d u → IsScoped T d (cond test t u)
+  cond-there d true t u h k = h
+  cond-there d false t u h k = k
+
+  call-there : (d : ℕ) (terms : List Term) (first : BelowValue) (arguments : List Term) (belows : List BelowValue) → Each (IsScoped T d) terms → BelowIn d first
+      → Each (IsScoped T d) arguments → Each (BelowIn d) belows → IsScoped T d (call_by_path number plan terms first arguments belows)
+  call-there d terms first arguments [] ht hf ha Each.none = applied-there d first.recursion arguments first.value hf.value ha
+  call-there d terms first arguments (b ∷ belows) ht hf ha (Each.more h all) =
+      let j = b.recursion.position in
+      let descent = descent_at number plan b (term_at arguments j) in
+      let whole = term_at terms j in
+      cond-there d (has_part descent.family descent.shape descent.part whole) (applied_path plan b.recursion arguments (path_of descent whole b.value))
+      (call_by_path number plan terms first arguments belows)
+      (applied-there d b.recursion arguments (path_of descent whole b.value)
+      (scoped-path_of T d descent whole b.value
       (record {
         below = h.below;
         pairs = h.pairs;
         constructors = h.shape;
-        motive = motive-there d r terms h ht;
-        part = each-get arguments r.position (Sort 0) (sort-scoped 0) ha;
+        motive = h.motive;
+        part = each-get arguments j (Sort 0) (sort-scoped 0) ha;
       })
-      (each-get terms r.position (Sort 0) (sort-scoped 0) ht) hb)
-      hb)
-      (each-append (terms_at (remaining_positions plan.arity r) arguments) (drop plan.arity arguments) (some-terms d (remaining_positions plan.arity r) arguments ha)
-      (each-drop plan.arity arguments ha))
+      (each-get terms j (Sort 0) (sort-scoped 0) ht) h.value)
+      ha)
+      (call-there d terms first arguments belows ht hf ha all)
+
+  in-there : (d : ℕ) (terms arguments : List Term) (belows : List BelowValue) → Each (IsScoped T d) terms → Each (BelowIn d) belows → Each (IsScoped T d) arguments
+      → IsScoped T d (call_in number plan terms arguments belows)
+  in-there d terms arguments [] ht Each.none ha = sort-scoped 0
+  in-there d terms arguments (b ∷ belows) ht (Each.more h all) ha = call-there d terms b arguments (b ∷ belows) ht h ha (Each.more h all)
 
   module _ (n : ℕ) (l : Place) where
     -- the term for a constant of a side is scoped, at any scoped arguments
@@ -206,15 +263,9 @@ module _ (T : Signature) (number : Naming) (plan : Plan) where
     CalledIn c =
         (under : ℕ) (arguments : List Term) → Each (IsScoped T (n + under)) arguments → IsScoped T (n + under) (constant_at number plan l under c arguments)
 
-    in-there : (under : ℕ) (arguments : List Term) (o : Option (Recursion × Term)) → Each (IsScoped T n) l.terms → OptionOnly (λ r. RecursionIn r.0 × IsScoped T n r.1) o
-        → Each (IsScoped T (n + under)) arguments → IsScoped T (n + under) (call_in number plan l under arguments o)
-    in-there under arguments None ht ho ha = sort-scoped 0
-    in-there under arguments (Some r) ht ho ha =
-        call-there (n + under) r.0 (lifted under l.terms) (lift r.1 under 0) arguments ho.0 (lifted-there n under l.terms ht) (lift-scoped T n r.1 under 0 ho.1) ha
-
-    behind-there : (under : ℕ) (o : Option (Recursion × Term)) → OptionOnly (λ r. RecursionIn r.0 × IsScoped T n r.1) o → Each (IsScoped T (n + under)) (below_behind under o)
-    behind-there under None ho = Each.none
-    behind-there under (Some r) ho = Each.more (lift-scoped T n r.1 under 0 ho.1) Each.none
+    behind-there : (under : ℕ) (belows : List BelowValue) → Each (BelowIn n) belows → Each (IsScoped T (n + under)) (belows_behind under belows)
+    behind-there under [] Each.none = Each.none
+    behind-there under (b ∷ belows) (Each.more h all) = Each.more (lift-scoped T n b.value under 0 h.value) (behind-there under belows all)
 
     pub called-entry : (c : ℕ) → c < plan.base → IsConstantNumber T c → CalledIn c
     called-entry c low q under arguments all =
@@ -223,8 +274,9 @@ module _ (T : Signature) (number : Naming) (plan : Plan) where
     pub called-function : (c : ℕ) → c ≡ plan.base → PlaceIn n l → CalledIn c
     called-function c same h under arguments all =
         subst (IsScoped T (n + under)) (sym (second-of_two c plan.base _ _ (omega arith)))
-        (subst (IsScoped T (n + under)) (sym (second-of-same c plan.base (call_in number plan l under arguments l.recursion) _ same))
-        (in-there under arguments l.recursion h.terms h.recursion all))
+        (subst (IsScoped T (n + under)) (sym (second-of-same c plan.base (call_in number plan (lifted under l.terms) arguments (belows_under under l.belows)) _ same))
+        (in-there (n + under) (lifted under l.terms) arguments (belows_under under l.belows) (lifted-there n under l.terms h.terms)
+        (under-there n under l.belows h.belows) all))
 
     pub called-helper : (k : ℕ) → 0 < k → IsConstantNumber T (number (helper_name plan.name k)) → PlaceIn n l → CalledIn (plan.base + k)
     called-helper k high q h under arguments all =
@@ -234,7 +286,7 @@ module _ (T : Signature) (number : Naming) (plan : Plan) where
         (sym (second-of-other (plan.base + k) plan.base _ (helper_call number plan l under (plan.base + k - plan.base) arguments) (omega arith)))
         (applied-each T (n + under) (Const (number (helper_name plan.name (plan.base + k - plan.base)))) _
         (const-scoped T (n + under) (number (helper_name plan.name (plan.base + k - plan.base))) (subst (λ i. IsConstantNumber T (number (helper_name plan.name i))) (sym at) q))
-        (each-append arguments (below_behind under l.recursion) all (behind-there under l.recursion h.recursion))))
+        (each-append arguments (belows_behind under l.belows) all (behind-there under l.belows h.belows))))
 
     -- a term in which all calls are made
     pub calls-there : (under : ℕ) (arguments : List Term) (t : Term) → IsOver T CalledIn (n + under) t → Each (IsScoped T (n + under)) arguments

@@ -57,7 +57,7 @@ module _ (w : Translation) (count : ℕ) (ready : IsReady w.signature) (first : 
       (node : Node) (clause : ℕ) (context : Telescope) (goal : Term) (substitution terms binds : List Term) → IsTreeNode (with_count w.signature count) node context →
       IsScopedLeaf w.signature context goal substitution terms binds →
       IsScoped (with_count w.signature count) (length node.context)
-      (leaf_term w.number w.plan w.recursion w.part w.order (length node.context) node.hidden clause substitution terms binds)
+      (leaf_term w.number w.plan w.recursions w.part w.order (length node.context) node.hidden clause substitution terms binds)
 
   abbrev pub Constants : List (List ℕ) → Type 0
   Constants names = Each (λ name. IsConstantNumber (with_count w.signature count) (w.number name)) names

@@ -42,7 +42,7 @@ before-out a at (suc count) le =
     other : is_among at (a ∷ []) ≡ false
     other = ap (λ b. b || false) (let ne : (a == at) ≡ false = grind (arith, nat_tests) in ne)
 
-after-out : (a at count : ℕ) → a < at → without (a ∷ []) (levels_from at count) ≡ levels_from at count
+pub after-out : (a at count : ℕ) → a < at → without (a ∷ []) (levels_from at count) ≡ levels_from at count
 after-out a at zero lt = refl
 after-out a at (suc count) lt =
     ap (λ b. cond b (without (a ∷ []) (levels_from (at + 1) count)) (at ∷ without (a ∷ []) (levels_from (at + 1) count))) other
@@ -52,10 +52,10 @@ after-out a at (suc count) lt =
     other = ap (λ b. b || false) (let ne : (a == at) ≡ false = grind (arith, nat_tests) in ne)
 
 -- all levels but one
-abbrev gap : (a more : ℕ) → List ℕ
+abbrev pub gap : (a more : ℕ) → List ℕ
 gap a more = levels_from 0 a ++ levels_from (a + 1) more
 
-visible-gap : (a more n : ℕ) → n ≡ a + suc more → visible n (a ∷ []) ≡ gap a more
+pub visible-gap : (a more n : ℕ) → n ≡ a + suc more → visible n (a ∷ []) ≡ gap a more
 visible-gap a more n e =
     let f : 0 + a ≡ a = omega arith in
     ap (λ n. without (a ∷ []) (levels_from 0 n)) e
@@ -71,11 +71,11 @@ visible-gap a more n e =
 -- ---- terms
 
 -- levels of j variables, of which those from number a on are one further in
-record IsGap (levels : List ℕ) (j a : ℕ) : Type 0 where
-  count : length levels ≡ j
-  room : a ≤ j
-  first : (i : ℕ) → i < a → get_or levels i 0 ≡ i
-  further : (i : ℕ) → a ≤ i → i < j → get_or levels i 0 ≡ i + 1
+pub record IsGap (levels : List ℕ) (j a : ℕ) : Type 0 where
+  pub count : length levels ≡ j
+  pub room : a ≤ j
+  pub first : (i : ℕ) → i < a → get_or levels i 0 ≡ i
+  pub further : (i : ℕ) → a ≤ i → i < j → get_or levels i 0 ≡ i + 1
 
 variable-gap : (levels : List ℕ) (j a under v : ℕ) → IsGap levels j a
     → put_variable (at_levels levels) (length levels) (j + 1) under v ≡ Var (lift_var v 1 (j - a + under))
@@ -145,7 +145,7 @@ take-gap a more j le room =
     ∙ ap (λ levels. levels_from 0 a ++ levels)
     (ap (λ k. take (j - k) (levels_from (a + 1) more)) e ∙ take-levels (a + 1) more (j - a) (omega arith))
 
-gap-is : (a j : ℕ) → a ≤ j → IsGap (gap a (j - a)) j a
+pub gap-is : (a j : ℕ) → a ≤ j → IsGap (gap a (j - a)) j a
 gap-is a j le = record {
   count =
       (let l = length-append (levels_from 0 a) (levels_from (a + 1) (j - a)) in
@@ -251,7 +251,7 @@ each-gap a below tele le j p e = by (below-or_from j a)
         ∙ (sym (put-gap (gap a (j - a)) j a 0 (term_at tele j) (gap-is a j least))
         ∙ ap₂ (λ levels p. placed levels p (term_at tele j)) (sym (take-gap a more j least (omega arith))) (sym same)))))
 
-below-seen : (a : ℕ) (below : Term) (tele : Telescope) → a ≤ length tele → IsSeen (with_below a below tele) (a ∷ []) tele
+pub below-seen : (a : ℕ) (below : Term) (tele : Telescope) → a ≤ length tele → IsSeen (with_below a below tele) (a ∷ []) tele
 below-seen a below tele le = record {
   count =
       (let x = length-append (levels_from 0 a) (levels_from (a + 1) (length tele - a)) in

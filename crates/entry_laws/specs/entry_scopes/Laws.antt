@@ -44,7 +44,7 @@ LeavesAreScoped w names =
     (node : Node) (clause : ℕ) (context : Telescope) (goal : Term) (substitution terms binds : List Term) → IsNodeGiven w.signature names node context →
     IsScopedLeaf w.signature context goal substitution terms binds →
     IsDraftTerm w.signature (length w.signature.entries) names (length node.context)
-    (leaf_term w.number w.plan w.recursion w.part w.order (length node.context) node.hidden clause substitution terms binds)
+    (leaf_term w.number w.plan w.recursions w.part w.order (length node.context) node.hidden clause substitution terms binds)
 
 -- Where each leaf has a term over the context of its node, so has the whole tree: it names entries and the names of its table.
 abbrev pub TreeScopedByLeaves : Type 0

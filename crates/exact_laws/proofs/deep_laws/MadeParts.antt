@@ -1,5 +1,5 @@
 -- The entries with a tree are made where their terms are not too high.
-use Rattle.std.proofs.Common.{◌≡◌, ℕ, ◌≤◌, Bool, true, false, cond, Option, IfSome, List, [], ◌++◌, length, get_or, All, Result, Ok, Err, refl, sym, ap, ◌∙◌, subst as transport, arith}
+use Rattle.std.proofs.Common.{◌≡◌, ℕ, ◌≤◌, Bool, true, false, cond, Option, Some, None, IfSome, List, [], ◌++◌, length, map, get_or, All, Result, Ok, Err, refl, sym, ap, ◌∙◌, subst as transport, arith}
 use Rattle.std.proofs.lemmas.List.Elements.{All-weaker}
 use Rattle.theory.specs.Terms.{Term, Sort, height}
 use Rattle.theory.specs.Telescopes.{Telescope, functions}
@@ -22,7 +22,7 @@ use Rattle.tree_translation.specs.Conditions.{IsPartOf, with_function}
 use Rattle.tree_translation.specs.Entries.{part_term, side_names}
 use Rattle.tree_translation.specs.Naming.{Naming, drafted_in_order, number_among, number_in, with_names}
 use Rattle.tree_translation.specs.Plans.{Part, Plan}
-use Rattle.tree_translation.specs.Recursion.{Recursion}
+use Rattle.tree_translation.specs.Recursion.{Recursion, recursions_in}
 use Rattle.tree_translation.specs.Splits.{Node}
 use Rattle.tree_translation.specs.TreeTerms.{Translation, tree_names, tree_term}
 use Rattle.tree_translation.proofs.Drafting.{and_then-ok}
@@ -39,7 +39,7 @@ use Rattle.exact_laws.proofs.translation_laws.FunctionTrees.{function-same}
 use Rattle.exact_laws.proofs.translation_laws.SameCode.{tree-names-made-same}
 use Rattle.exact_laws.proofs.translation_laws.SameFamilies.{tree-names-same, tree-same}
 use Rattle.entry_laws.proofs.draft_scopes.FunctionSignatures.{IsTree, function-numbers, part-tree}
-use Rattle.exact_laws.specs.leaf_laws.Laws.{PartIsExact}
+use Rattle.exact_laws.specs.leaf_laws.Laws.{CallsApartBy, PartIsExact}
 use Rattle.exact_laws.proofs.deep_laws.AlikeNames.{tree-names-alike}
 
 -- ---- drafts
@@ -102,18 +102,18 @@ part-begins S plan uses at part context goal terms node ready is hc hg ht over l
 -- ---- an entry
 
 -- its names are made at the node of any naming
-table-there : (w : Translation) (uses : List Use) (at : ℕ) (context : Telescope) (goal : Term) (terms : List Term) (node : Naming → Node) (start : Naming)
+table-there : (w : Translation) (uses : List Use) (at : ℕ) (context : Telescope) (goal : Term) (terms : List Term) (node : Naming → Node) (start : Naming) (o : Option Recursion)
     → IsReady (with_function w.signature w.plan) → BeginsAt w.signature w.plan uses at w.part context goal terms node
     → height (tree_term w w.part.tree (node w.number)) ≤ 2000
-    → table_made w.signature w.plan w.recursion at w.part (node start)
-    ≡ Ok (with_names [] (side_names w.plan w.recursion at ++ tree_names w.signature w.part.level w.part.tree (node (λ name. w.plan.base))))
-table-there w uses at context goal terms node start ready begins low =
+    → table_made w.signature w.plan o at w.part (node start)
+    ≡ Ok (with_names [] (side_names w.plan o at ++ tree_names w.signature w.part.level w.part.tree (node (λ name. w.plan.base))))
+table-there w uses at context goal terms node start o ready begins low =
     let S = w.signature in
     let F = with_function S w.plan in
     let L = w.part.level in
     let t = w.part.tree in
     let same = function-same S w.plan in
-    let names = side_names w.plan w.recursion at in
+    let names = side_names w.plan o at in
     let a = node start in
     let b = node w.number in
     let one : IsNodeOver a context = record { is_seen = (begins.over start).is_seen; hidden = (begins.over start).hidden } in
@@ -125,6 +125,12 @@ table-there w uses at context goal terms node start ready begins low =
     ∙ ap (λ own. Ok (names ++ own)) (sym (tree-names-same S F same L t a))) in
     ap (λ (r : Result (List (List ℕ)) Stop). and_then r (λ names. Ok (with_names [] names))) made
     ∙ ap (λ own. Ok (with_names [] (names ++ own))) (tree-names S L t a (node (λ name. w.plan.base)) (begins.like start (λ name. w.plan.base)))
+
+-- the condition on the calls, at one position
+apart-by : (plan : Plan) (o : Option Recursion) (t : Term) → IfSome o (λ r. CallsStandApart plan.base r.position t)
+    → CallsApartBy plan (map (λ c. c.recursion) (recursions_in plan o)) t
+apart-by plan None t h = tt
+apart-by plan (Some r) t h = (h, tt)
 
 pub entry-there : PartIsExact → (S : Signature) (plan : Plan) (uses : List Use) (at : ℕ) (part : Part) (o : Option Recursion) (order : List ℕ) (context : Telescope) (goal : Term)
     (terms : List Term) (node : Naming → Node) (name : List ℕ) (type : Naming → Term) (d : Draft) → IsReady (with_function S plan) → plan.base ≡ length S.entries
@@ -146,10 +152,10 @@ entry-there exact S plan uses at part o order context goal terms node name type 
     let whole = numbered-low name plan.base table (type number) (functions here.context body) d e in
     let low : height body ≤ 2000 = (low-functions here.context body whole.1).1 in
     let made =
-    exact w uses at context goal terms here (record { ready = ready; part = begins.part_is; scoped = begins.scoped; root = begins.over number }) base apart low in
+    exact w uses at context goal terms here (record { ready = ready; part = begins.part_is; scoped = begins.scoped; root = begins.over number }) base (λ clause. apart-by plan o (get_or part.sides clause (Sort 0)) (apart clause)) low in
     ap
     (λ (r : Result (List (List ℕ)) Stop).
     and_then r (λ table.
     tree_entry_made name table (translation_with S plan o part order (number_in plan.base table)) (node (number_in plan.base table)) (type (number_in plan.base table))))
-    (table-there w uses at context goal terms node (number_in plan.base []) ready begins low)
+    (table-there w uses at context goal terms node (number_in plan.base []) o ready begins low)
     ∙ (ap (λ (r : Result Term Stop). and_then (and_then r (λ t. Ok (functions here.context t))) (numbered name plan.base table (type number))) made ∙ e)

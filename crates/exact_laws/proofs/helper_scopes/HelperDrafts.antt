@@ -46,8 +46,8 @@ plain_helper_scoped S plan uses k part d ready first base is e =
     each-weaker candidates (λ name low. constant-there S plan base count (number_in plan.base table name) (omega arith) low) (candidates-numbered plan.base candidates) in
     let helpers_named = each-left (helper_names plan k) (tree_names S part.level part.tree node) named in
     let tree_named = each-right (helper_names plan k) (tree_names S part.level part.tree node) named in
-    let w : Translation = record { signature = F; number = number; plan = plan; recursion = None; part = part; order = order } in
-    let old : Translation = record { signature = S; number = number; plan = plan; recursion = None; part = part; order = order } in
+    let w : Translation = record { signature = F; number = number; plan = plan; recursions = []; part = part; order = order } in
+    let old : Translation = record { signature = S; number = number; plan = plan; recursions = []; part = part; order = order } in
     let tele = telescope-wider more 0 part.tele is.context_scoped in
     let goal = scoped-wider more is.goal_scoped in
     let stands = part-tree S plan uses k part part.tele part.goal part.terms ready is is.context_scoped is.goal_scoped is.terms_scoped in
@@ -60,7 +60,7 @@ plain_helper_scoped S plan uses k part d ready first base is e =
     let made : IsScoped T n (tree_term w part.tree node) =
     tree-scoped w count ready (prelude-there F count (function-prefix S plan first)) part.tree
     (λ next i context goal substitution terms binds over leaf.
-    leaf-there S T more number plan base numbers k part None order p (λ j helper at lt. helper-named (IsConstantNumber T) number plan k j helper helpers_named at lt) tt next i context goal
+    leaf-there S T more number plan base numbers k part [] order p (λ j helper at lt. helper-named (IsConstantNumber T) number plan k j helper helpers_named at lt) Each.none next i context goal
     substitution terms binds over leaf)
     (start_at part.tele part.goal part.terms) node stands.stands stands.scoped there
     (subst (Each (λ name. IsConstantNumber T (number_in plan.base table name))) (tree-names-same S F (function-same S plan) part.level part.tree node) tree_named) in

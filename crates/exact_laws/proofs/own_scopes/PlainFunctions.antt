@@ -79,8 +79,8 @@ plain_function_scoped S plan d ready first planned none e =
     each-weaker candidates (λ name low. constant-there S plan base count (number_in plan.base table name) (omega arith) low) (candidates-numbered plan.base candidates) in
     let helpers_named = each-left (helper_names plan 0) (tree_names S part.level part.tree node) named in
     let tree_named = each-right (helper_names plan 0) (tree_names S part.level part.tree node) named in
-    let w : Translation = record { signature = F; number = number; plan = plan; recursion = None; part = part; order = order } in
-    let old : Translation = record { signature = S; number = number; plan = plan; recursion = None; part = part; order = order } in
+    let w : Translation = record { signature = F; number = number; plan = plan; recursions = []; part = part; order = order } in
+    let old : Translation = record { signature = S; number = number; plan = plan; recursions = []; part = part; order = order } in
     let terms = ordered_variables order n in
     let is = own-plain S plan planned.uses none planned.own in
     let tele = telescope-wider more 0 part.tele is.context_scoped in
@@ -96,7 +96,7 @@ plain_function_scoped S plan d ready first planned none e =
     let made : IsScoped T n (tree_term w part.tree node) =
     tree-scoped w count ready (prelude-there F count (function-prefix S plan first)) part.tree
     (λ next i context goal substitution terms binds over leaf.
-    leaf-there S T more number plan base numbers 0 part None order p (λ j helper at lt. helper-named (IsConstantNumber T) number plan 0 j helper helpers_named at lt) tt next i context goal
+    leaf-there S T more number plan base numbers 0 part [] order p (λ j helper at lt. helper-named (IsConstantNumber T) number plan 0 j helper helpers_named at lt) Each.none next i context goal
     substitution terms binds over leaf)
     (start_at part.tele part.goal terms) node stands.stands stands.scoped there
     (subst (Each (λ name. IsConstantNumber T (number_in plan.base table name))) (tree-names-same S F (function-same S plan) part.level part.tree node) tree_named) in

@@ -1,5 +1,5 @@
 -- The own draft of a function by recursion is scoped.
-use Rattle.std.proofs.Common.{ℕ, ◌+◌, List, [], ◌∷◌, ◌++◌, length, take, sym, subst, arith}
+use Rattle.std.proofs.Common.{◌≡◌, ℕ, ◌+◌, Some, Ok, List, [], ◌∷◌, ◌++◌, length, take, sym, subst, arith}
 use Rattle.theory.specs.Terms.{Term, Const}
 use Rattle.theory.specs.Substitutions.{inst, fill}
 use Rattle.theory.specs.Telescopes.{Telescope, applied, variables}
@@ -8,14 +8,17 @@ use Rattle.theory.specs.Spines.{spine_of}
 use Rattle.theory.specs.Signatures.{Signature}
 use Rattle.theory.specs.SignatureScopes.{IsConstantNumber, IsScoped, IsScopedTelescope}
 use Rattle.theory.proofs.ScopedTerms.{HasNumbers, sort-scoped, scoped_over_more, inst-scoped, spine-scoped, scoped-wider, telescope-wider}
+use Rattle.core_sig.specs.Drafts.{Draft}
+use Rattle.core_sig.specs.ScopedDrafts.{IsScopedDraft}
 use Rattle.tele_eq.specs.Items.{term_at}
 use Rattle.unification.proofs.ScopedRecords.{variables-scoped}
 use Rattle.tree_translation.specs.Conditions.{with_function}
-use Rattle.tree_translation.specs.Entries.{function_by_recursion}
+use Rattle.tree_translation.specs.Entries.{function_by_recursion, function_entry}
 use Rattle.tree_translation.specs.Naming.{Naming, number_in, with_names, rec_name, motive_name, step_name}
 use Rattle.tree_translation.specs.Plans.{Plan, own_part}
 use Rattle.tree_translation.specs.Recursion.{Recursion, remaining_positions, terms_at, parameters_at, motive_at, scrutinee_at}
 use Rattle.entry_laws.proofs.OnlyConstants.{Each, each-all, each-append, each-get, each-take, each-weaker}
+use Rattle.entry_laws.proofs.OnlyEntries.{IsBased, is-based}
 use Rattle.entry_laws.proofs.TableNames.{all-each, candidates-numbered}
 use Rattle.entry_laws.proofs.entry_scopes.DraftSignatures.{with_count}
 use Rattle.entry_laws.proofs.entry_scopes.WholeStandings.{filled-scoped, scoped-functions, scoped-products}
@@ -78,11 +81,11 @@ module _ (T : Signature) (number : Naming) (plan : Plan) (r : Recursion) where
 
 -- ---- drafts
 
-pub recursive_function_scoped : RecursiveFunctionScoped
-recursive_function_scoped S plan r d planned e =
+pub recursive-function-by : (S : Signature) (plan : Plan) (r : Recursion) (d : Draft) → IsBased S plan → function_entry S plan (Some r) ≡ Ok d → (d.base ≡ plan.base) × IsScopedDraft S d
+recursive-function-by S plan r d based e =
     let F = with_function S plan in
     let part = own_part plan in
-    let base = planned.base in
+    let base = based.base in
     let n = length part.tele in
     let candidates = rec_name r.family plan.level ∷ motive_name plan.name ∷ step_name plan.name ∷ [] in
     let table = with_names [] candidates in
@@ -92,8 +95,11 @@ recursive_function_scoped S plan r d planned e =
     let more : HasNumbers S T = both-numbers S plan base count in
     let named : Each (λ name. IsConstantNumber T (number_in plan.base table name)) candidates =
     each-weaker candidates (λ name low. constant-there S plan base count (number_in plan.base table name) (omega arith) low) (candidates-numbered plan.base candidates) in
-    let tele = telescope-wider more 0 part.tele planned.own.context_scoped in
-    let goal = scoped-wider more planned.own.goal_scoped in
+    let tele = telescope-wider more 0 part.tele based.own.is.context_scoped in
+    let goal = scoped-wider more based.own.is.goal_scoped in
     in_order-scoped S T plan.name plan.base candidates (λ number. plan.type) (function_by_recursion plan r) d (named-over S plan base count) e
-    (subst (IsScoped T 0) (sym planned.type) (scoped-products T 0 part.tele part.goal tele (scoped_over_more T n (0 + n) part.goal (omega arith) goal)))
+    (subst (IsScoped T 0) (sym based.type) (scoped-products T 0 part.tele part.goal tele (scoped_over_more T n (0 + n) part.goal (omega arith) goal)))
     (by_recursion-there T number plan r tele named)
+
+pub recursive_function_scoped : RecursiveFunctionScoped
+recursive_function_scoped S plan r d planned e = recursive-function-by S plan r d (is-based S plan planned) e

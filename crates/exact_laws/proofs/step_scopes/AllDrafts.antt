@@ -9,6 +9,7 @@ use Rattle.core_sig.specs.Drafts.{Draft}
 use Rattle.core_sig.specs.ScopedDrafts.{IsScopedDraft}
 use Rattle.entry_laws.proofs.order_scopes.OrderLengths.{order-counted}
 use Rattle.entry_laws.proofs.order_scopes.OrderedScopes.{length-ordered, variables-scoped, variables-there}
+use Rattle.tree_translation.specs.structural_rec.Laws.{IsOrder}
 use Rattle.tree_translation.specs.Conditions.{IsPartOf, IsPlanned}
 use Rattle.tree_translation.specs.Entries.{helper_entry, helper_node, ordered_variables, side_names, step_node}
 use Rattle.tree_translation.specs.Naming.{Naming, helper_name, step_name}
@@ -18,7 +19,7 @@ use Rattle.tree_translation.proofs.Drafting.{AreHelpers, AreEntries, entries-are
 use Rattle.entry_laws.proofs.node_roots.RootNodes.{helper_node-over, step_node-over, length-below, first-within}
 use Rattle.entry_laws.proofs.GrowingDrafts.{later-parts}
 use Rattle.entry_laws.proofs.OnlyConstants.{Each, each-all, each-append, each-weaker}
-use Rattle.entry_laws.proofs.OnlyEntries.{step-like, helper-like}
+use Rattle.entry_laws.proofs.OnlyEntries.{IsBased, is-based, step-like, helper-like}
 use Rattle.entry_laws.proofs.TableNames.{all-each}
 use Rattle.entry_laws.proofs.entry_scopes.WholeSplits.{IsNodeIn}
 use Rattle.entry_laws.specs.draft_scopes.Laws.{IsOrdered}
@@ -32,7 +33,7 @@ use Rattle.exact_laws.proofs.step_scopes.PlanOrders.{order-there, plan-ordered}
 
 -- ---- the step
 
-first-some : (r : Recursion) → 0 < length (first_positions r)
+pub first-some : (r : Recursion) → 0 < length (first_positions r)
 first-some r =
     let a = length-append r.admission.fixed (r.admission.indices ++ r.position ∷ []) in
     let b = length-append r.admission.indices (r.position ∷ []) in
@@ -50,8 +51,8 @@ step-own S plan r planned is =
     (ordered_variables (order_of (length (own_part plan).tele) o) (length (own_part plan).tele)))
     is planned.own
 
-module _ (S : Signature) (plan : Plan) (r : Recursion) (planned : IsPlanned S plan) (is : recursion_of S plan ≡ Some r) (ordered : IsOrdered S plan r) where
-  step-there : (T : Signature) (number : Naming) → HasNumbers S T → Each (λ name. IsConstantNumber T (number name)) (side_names plan (Some r) 0)
+module _ (S : Signature) (plan : Plan) (r : Recursion) (based : IsBased S plan) (whole_order : IsOrder (length (own_part plan).tele) (order_of (length (own_part plan).tele) (Some r))) (ordered : IsOrdered S plan r) where
+  pub step-there : (T : Signature) (number : Naming) → HasNumbers S T → Each (λ name. IsConstantNumber T (number name)) (side_names plan (Some r) 0)
       → IsNodeIn T (step_node plan r number)
   step-there T number more (Each.more below (Each.more motive all)) =
       let part = own_part plan in
@@ -61,11 +62,11 @@ module _ (S : Signature) (plan : Plan) (r : Recursion) (planned : IsPlanned S pl
       let goal = ordered_term count order part.goal in
       let first = length (first_positions r) in
       let terms = ordered_variables order first in
-      let long : length tele ≡ count = length-ordered part.tele order (order-there S plan r is) in
-      let counted : length order ≡ count = order-counted count order (order-there S plan r is) in
+      let long : length tele ≡ count = length-ordered part.tele order whole_order in
+      let counted : length order ≡ count = order-counted count order whole_order in
       let le : first ≤ length tele = omega (arith, long, counted, first-within count r) in
       let type : IsScoped T first (below_type number plan r terms) =
-      below-there T number plan r first terms below motive (telescope-wider more 0 part.tele planned.own.context_scoped)
+      below-there T number plan r first terms below motive (telescope-wider more 0 part.tele based.own.is.context_scoped)
       (each-all (IsScoped T first) terms (variables-there T order first (first-some r))) in
       let whole = length-below first (below_type number plan r terms) tele le in
       record {
@@ -94,7 +95,7 @@ step-scoped S plan r d given is ordered e =
     part-draft S plan given.planned.uses 0 part (Some r) order tele (ordered_term count order part.goal) (ordered_variables order count) (step_node plan r) (step_name plan.name) d given is
     (step-own S plan r given.planned is) ordered.telescope ordered.goal
     (subst (λ n. All (IsScoped S n) (ordered_variables order count)) (sym long) (variables-scoped S order count (omega (arith, counted))))
-    (step-root S plan r given.planned is ordered) e
+    (step-root S plan r (is-based S plan given.planned) whole ordered) e
 
 -- ---- helpers
 

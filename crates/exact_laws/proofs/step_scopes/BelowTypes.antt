@@ -11,20 +11,26 @@ use Rattle.kernel_reduce.proofs.ScopedTelescopes.{telescope-append, telescope-ta
 use Rattle.tree_translation.specs.Entries.{with_below}
 use Rattle.tree_translation.specs.Naming.{Naming, below_name, motive_name}
 use Rattle.tree_translation.specs.Plans.{Plan, own_part}
-use Rattle.tree_translation.specs.Recursion.{Recursion, below_type, motive_at, parameters_at, scrutinee_at}
+use Rattle.tree_translation.specs.Recursion.{Recursion, below_type, below_with, motive_at, parameters_at, scrutinee_at}
 use Rattle.entry_laws.proofs.OnlyConstants.{Each, each-append}
 use Rattle.entry_laws.proofs.entry_scopes.WholeTerms.{applied-each, const-scoped}
 use Rattle.entry_laws.proofs.draft_scopes.RenumberedDrafts.{telescope-after}
 use Rattle.exact_laws.proofs.own_scopes.RecursiveFunctions.{terms-there, parameters-there, motive-there}
 
+pub below_with-there : (T : Signature) (number : Naming) (plan : Plan) (r : Recursion) (n : ℕ) (motive : Term) (terms : List Term)
+    → IsConstantNumber T (number (below_name r.family plan.level)) → IsScoped T n motive → IsScopedTelescope T 0 (own_part plan).tele → Each (IsScoped T n) terms
+    → IsScoped T n (below_with number plan r motive terms)
+below_with-there T number plan r n motive terms below h tele all =
+    let parameters = parameters_at (own_part plan).tele r terms in
+    let others = motive ∷ scrutinee_at r terms in
+    applied-each T n (Const (number (below_name r.family plan.level))) (parameters ++ others) (const-scoped T n (number (below_name r.family plan.level)) below)
+    (each-append parameters others (parameters-there T n (own_part plan).tele r terms tele all)
+    (Each.more h (terms-there T n (r.admission.indices ++ r.position ∷ []) terms all)))
+
 pub below-there : (T : Signature) (number : Naming) (plan : Plan) (r : Recursion) (n : ℕ) (terms : List Term) → IsConstantNumber T (number (below_name r.family plan.level))
     → IsConstantNumber T (number (motive_name plan.name)) → IsScopedTelescope T 0 (own_part plan).tele → Each (IsScoped T n) terms → IsScoped T n (below_type number plan r terms)
 below-there T number plan r n terms below motive tele all =
-    let parameters = parameters_at (own_part plan).tele r terms in
-    let others = motive_at number plan r terms ∷ scrutinee_at r terms in
-    applied-each T n (Const (number (below_name r.family plan.level))) (parameters ++ others) (const-scoped T n (number (below_name r.family plan.level)) below)
-    (each-append parameters others (parameters-there T n (own_part plan).tele r terms tele all)
-    (Each.more (motive-there T n number plan r terms motive all) (terms-there T n (r.admission.indices ++ r.position ∷ []) terms all)))
+    below_with-there T number plan r n (motive_at number plan r terms) terms below (motive-there T n number plan r terms motive all) tele all
 
 -- ---- telescopes
 

@@ -32,7 +32,7 @@ arguments-there : (F : Signature) (count n : ℕ) (arguments : List ArgumentShap
 arguments-there F count n [] h = Each.none
 arguments-there F count n (a ∷ arguments) h = Each.more (draft-scoped F count n a.type h.0).entries (arguments-there F count (n + 1) arguments h.1)
 
-shape-there : (F : Signature) (count n : ℕ) (f : Family) → IsScopedSignature F → IsEntryAt F n (FamilyOf f) → Constructors (with_count F count) (family_shape n f).constructors
+pub shape-there : (F : Signature) (count n : ℕ) (f : Family) → IsScopedSignature F → IsEntryAt F n (FamilyOf f) → Constructors (with_count F count) (family_shape n f).constructors
 shape-there F count n f scoped at =
     let p = length f.parameters in
     let is = family-draft F count n f scoped at in

@@ -50,7 +50,7 @@ next-deep S node x number steps (Some m) = found-deep S node m x number steps (s
 mutual
   tree-deep : (w : Translation) (t : Tree) (node : Node) → OnlyDeep (tree_made w t node)
   tree-deep w (tree.Leaf clause context goal substitution terms binds) node =
-      leaf-is-deep w.number w.plan w.recursion w.part w.order (length node.context) node.hidden clause substitution terms binds
+      leaf-is-deep w.number w.plan w.recursions w.part w.order (length node.context) node.hidden clause substitution terms binds
   tree-deep w (tree.Split context x n type branches) node =
       then-deep (member_made w.signature (type_in node type)) _ (member-deep w.signature (type_in node type)) (λ o.
       then-deep (ends_made w branches node (variable_in node x) o 0 []) _ (ends-deep w branches node (variable_in node x) o 0 []) (λ ends.

@@ -17,9 +17,9 @@ use Rattle.function_entries.specs.CodeTrees.{tree_made, tree_names_made}
 -- the term of a leaf is made where it is no higher than a term may be
 abbrev pub LeafMade : Translation → LeafProperty
 LeafMade w clause context goal substitution terms binds =
-    (n : ℕ) (hidden : List ℕ) → height (leaf_term w.number w.plan w.recursion w.part w.order n hidden clause substitution terms binds) ≤ 2000 →
-    leaf_made w.number w.plan w.recursion w.part w.order n hidden clause substitution terms binds
-    ≡ Ok (leaf_term w.number w.plan w.recursion w.part w.order n hidden clause substitution terms binds)
+    (n : ℕ) (hidden : List ℕ) → height (leaf_term w.number w.plan w.recursions w.part w.order n hidden clause substitution terms binds) ≤ 2000 →
+    leaf_made w.number w.plan w.recursions w.part w.order n hidden clause substitution terms binds
+    ≡ Ok (leaf_term w.number w.plan w.recursions w.part w.order n hidden clause substitution terms binds)
 
 -- A tree over a point, at a node of which the point's context is what is seen. The hidden variables are some of the node's context.
 pub record IsTreeOver (w : Translation) (p : Point) (t : Tree) (node : Node) : Type 0 where

@@ -1,0 +1,3 @@
+pub mod CodePairEntries
+pub mod PairLaws
+pub mod PairMeanings
