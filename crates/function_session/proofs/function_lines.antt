@@ -1,7 +1,9 @@
 pub mod Agreeing
 pub mod EnteredPlans
+pub mod PartWalks
 pub mod PhasedFunctions
 pub mod Provisional
 pub mod ReportedParts
 pub mod Results
 pub mod SamePlans
+pub mod Slices

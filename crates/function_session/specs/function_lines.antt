@@ -1,4 +1,4 @@
 pub mod Conditions
-pub mod FunctionMade
+pub mod Phases
 pub mod LineMeanings
 pub mod Opened

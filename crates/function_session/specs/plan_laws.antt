@@ -1,4 +1,3 @@
 pub mod Conditions
 pub mod Laws
-pub mod MadePlans
 pub mod Reading

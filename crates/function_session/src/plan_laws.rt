@@ -1,6 +1,5 @@
 //! Laws of plans: the plan of a function by clauses meets the conditions of its entries.
 ghost use Rattle.function_session.specs.plan_laws.Laws.{PlanIsOfFunction, PlanIsPlanned, PlanStandsApart, SameAbstractions, SameTrees, SameWalks};
-ghost use Rattle.function_session.specs.plan_laws.MadePlans.{PlanIsMade};
 ghost use Rattle.function_session.specs.plan_laws.Reading.{FunctionIsNotRead};
 
 /// A function at the end of a signature is not read.
@@ -36,9 +35,4 @@ pub fn plan_is_planned()
 /// No call in the plan of a function is the decreasing argument of another one.
 pub fn plan_stands_apart()
     ensures { PlanStandsApart }
-{}
-
-/// The plan that the code makes is the plan that is meant.
-pub fn plan_is_made()
-    ensures { PlanIsMade }
 {}

@@ -10,4 +10,3 @@ pub mod OwnWalks
 pub mod LeafSites
 pub mod EnteredParts
 pub mod FunctionReports
-pub mod OpenedPlans

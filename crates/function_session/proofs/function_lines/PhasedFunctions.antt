@@ -12,7 +12,7 @@ use Rattle.clause_reports.specs.elaboration.Refusals.{Elaborating, OfType, Refus
 use Rattle.drafts.specs.draft_checks.Checks.{unmarked}
 use Rattle.drafts.proofs.draft_entering.Entered.{next-assoc}
 use Rattle.function_session.specs.function_lines.Conditions.{IsOfFunction, IsWorkingOn}
-use Rattle.function_session.specs.function_lines.FunctionMade.{function_phases, level_of}
+use Rattle.function_session.specs.function_lines.Phases.{function_phases, level_of}
 use Rattle.function_session.specs.function_lines.Opened.{deep, function_in, lines_closed, plan_in}
 use Rattle.function_session.specs.plan_laws.Conditions.{HasLevel}
 use Rattle.function_session.proofs.function_lines.Agreeing.{spent}

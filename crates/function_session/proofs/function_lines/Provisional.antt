@@ -1,5 +1,5 @@
 -- The signature with the function at its end, and without it again.
-use Rattle.std.proofs.Common.{◌≡◌, inr, ℕ, List, [], ◌∷◌, length, refl, sym, ap, ◌∙◌, subst as transport}
+use Rattle.std.proofs.Common.{◌≡◌, inr, ℕ, List, [], ◌∷◌, length, refl, sym, ap, ap₂, ◌∙◌, subst as transport}
 use Rattle.std.proofs.lemmas.List.{length-append}
 use Rattle.theory.specs.Terms.{Term, Const}
 use Rattle.theory.specs.Signatures.{Signature, Entry, Definition, IsEntryAt, IsPrefix}
@@ -14,7 +14,10 @@ use Rattle.elab_session.specs.Sessions.{IsReady}
 use Rattle.elab_session.proofs.Resolved.{prelude-stays}
 use Rattle.resolve.specs.Functions.{Function}
 use Rattle.resolve.specs.Scoping.{IsResolvedFunction}
+use Rattle.clause_reports.specs.elaboration.Functions.{own_part, plan_of}
 use Rattle.function_session.specs.function_lines.Conditions.{IsFunctionOver}
+use Rattle.function_session.specs.function_lines.Phases.{plan_walked}
+use Rattle.function_session.proofs.plan_laws.ExactPlans.{plan-is}
 
 -- no entry of a settled signature is provisional
 whole : (S : Signature) → IsSettled S → IsWhole S
@@ -47,3 +50,10 @@ pub taken-back : (S : Signature) (name : List ℕ) (type : Term) (n : ℕ) → n
 taken-back S name type n is =
     ap (first_entries (provisional S name type)) is
     ∙ cut_to_prefix S (provisional S name type) (push_is_longer S (Definition name type (Const (length S.entries))))
+
+-- over the signature with the entry, what is planned is the function's plan
+pub walked-over : (S T : Signature) (f : Function) (own level left : ℕ) → T ≡ provisional S f.name f.type → own ≡ length S.entries
+    → plan_walked (record { signature = T; name = f.name; own = own }) f (own_part f level) left ≡ plan_of S f level left
+walked-over S T f own level left is number =
+    ap₂ (λ (T : Signature) (own : ℕ). plan_walked (record { signature = T; name = f.name; own = own }) f (own_part f level) left) is number
+    ∙ plan-is S f level left

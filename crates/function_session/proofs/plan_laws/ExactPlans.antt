@@ -1,6 +1,6 @@
--- The plan that the code makes of a resolved function is its plan.
+-- The plan after the walks of a function's clauses, over the signature that has the function, is its plan.
 use mathlib.Core.Path.{fun_ext}
-use Rattle.std.proofs.Common.{◌≡◌, ℕ, zero, suc, ◌≤◌, Bool, true, ◌&&◌, Option, ◌∷◌, length, Result, Ok, Err, refl, sym, ap₂, ◌∙◌, arith}
+use Rattle.std.proofs.Common.{◌≡◌, ℕ, zero, suc, ◌≤◌, Bool, true, ◌&&◌, Option, ◌∷◌, length, Result, Ok, Err, refl, sym, ap₂, arith}
 use Rattle.std.proofs.lemmas.Bool.Decides.{nat_tests}
 use Rattle.theory.specs.Terms.{Term, Pi, height}
 use Rattle.theory.specs.Telescopes.{Telescope}
@@ -9,15 +9,13 @@ use Rattle.core_terms.specs.Answers.{SpentOr, and_next, are_low, is_low, on_answ
 use Rattle.clause_reports.specs.elaboration.Functions.{first_domains, helpers_finished, own_finished, own_part, plan_of, position_chosen, recursion_in}
 use Rattle.clause_reports.specs.elaboration.Refusals.{Elaborating, answers}
 use Rattle.clause_reports.specs.elaboration.Walking.{Given, Walked, walk_clauses}
-use Rattle.function_plans.specs.CodePlans.{are_low_uses, plan_after, plan_made, planned}
-use Rattle.function_plans.proofs.PlansMade.{plan-is}
+use Rattle.function_plans.specs.CodePlans.{plan_after, planned}
 use Rattle.resolve.specs.Functions.{Function}
 use Rattle.tree_translation.specs.structural_rec.Choices.{Choice, choose}
 use Rattle.tree_translation.specs.Plans.{Plan}
 use Rattle.tree_translation.specs.Recursion.{Recursion}
-use Rattle.function_session.specs.plan_laws.MadePlans.{PlanIsMade, plan_by_code}
-use Rattle.function_session.proofs.plan_laws.Answering.{if-ok}
-use Rattle.function_session.proofs.plan_laws.LowWalks.{IsLowGiven, clauses-low}
+use Rattle.function_session.specs.function_lines.Opened.{session_at}
+use Rattle.function_session.specs.function_lines.Phases.{plan_walked}
 use Rattle.function_session.proofs.plan_laws.OpenedScopes.{session}
 use Rattle.function_plans.proofs.SameChoices.{choice-same, recursion-same}
 use Rattle.function_session.proofs.plan_laws.SameReduction.{not-read}
@@ -38,7 +36,7 @@ domains-low (suc count) (Pi a b) h =
     ap₂ (λ (x y : Bool). x && y) first (domains-low count b (omega (arith, h)))
 domains-low (suc count) _ h = refl
 
-module _ (S : Signature) (f : Function) (level : ℕ) (low : height f.type ≤ 2000) where
+module _ (S : Signature) (f : Function) (level : ℕ) where
   abbrev tele : Telescope
   tele = (own_part f level).tele
 
@@ -63,20 +61,6 @@ module _ (S : Signature) (f : Function) (level : ℕ) (low : height f.type ≤ 2
       (sym (fun_ext (λ position. recursion-same S (session S f.name f.type).signature alike.families tele position)))
       (sym (choice-same S (session S f.name f.type).signature alike.families tele (length S.entries) given.uses))
 
-  made-is : (given : Given) (left : ℕ) → are_low_uses given.uses ≡ true
-      → plan_made (session S f.name f.type) f.type f.arity level (walked given) given.helpers given.uses left
-      ≡ plan_by given (recursion_in S tele) (choose S tele (length S.entries) given.uses) left
-  made-is given left uses =
-      plan-is (session S f.name f.type) f.type f.arity level (walked given) given.helpers given.uses left
-      (ap₂ (λ (a b : Bool). a && b) (domains-low f.arity f.type low) uses)
-      ∙ after-is given left
-
-  plan-exact : (left : ℕ) → plan_by_code S f level left ≡ plan_of S f level left
-  plan-exact left =
-      next-same (walk_clauses (session S f.name f.type) 0 (own_part f level) 0 1 f.clauses left) _ _ (λ given rest e.
-      made-is given rest
-      (if-ok IsLowGiven (walk_clauses (session S f.name f.type) 0 (own_part f level) 0 1 f.clauses left).0 given e
-      (clauses-low (session S f.name f.type) 0 (own_part f level) 0 1 f.clauses left)))
-
-pub plan-is-made : PlanIsMade
-plan-is-made S f level left low = plan-exact S f level low left
+  pub plan-is : (left : ℕ) → plan_walked (session_at S f) f (own_part f level) left ≡ plan_of S f level left
+  plan-is left =
+      next-same (walk_clauses (session S f.name f.type) 0 (own_part f level) 0 1 f.clauses left) _ _ (λ given rest e. after-is given rest)

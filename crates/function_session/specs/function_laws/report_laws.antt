@@ -1,5 +1,4 @@
 pub mod plan_drafts
-pub mod made_functions
 pub mod drafts_in_turn
 pub mod Laws
 pub mod Reportable

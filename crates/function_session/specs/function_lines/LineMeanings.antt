@@ -3,7 +3,7 @@ use Rattle.std.specs.Prelude.{List, map}
 use Rattle.theory.specs.Signatures.{Signature}
 use Rattle.clause_lines.specs.LineMeanings.{line_of}
 use Rattle.clause_reports.specs.elaboration.Functions as pure
-use Rattle.function_session.specs.function_lines.FunctionMade.{lines_with}
+use Rattle.function_session.specs.function_lines.Phases.{lines_with}
 use Rattle.function_session.specs.declared.function_lines.lines.ClauseLine.{ClauseLine}
 
 abbrev pub clause_line_of : ClauseLine → pure.ClauseLine

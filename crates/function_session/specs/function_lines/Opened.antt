@@ -31,9 +31,12 @@ lines_closed S f fuel = and_next (planned_of S f fuel) (λ plan left. deep left)
 abbrev pub function_in : Signature → Function → (fuel : ℕ) → Elaborating Lines
 function_in S f fuel = cond (unmarked S) (function_of S f fuel) (lines_closed S f fuel)
 
--- the lines of a plan, with the signature that has its entries
+-- the lines of a plan once its entries have entered, with the signature that has them
+abbrev pub opened_in : Plan → Signature → ℕ → Elaborating Lines
+opened_in plan S left = and_next (enter_plan S plan left) (λ T rest. report_parts plan 0 plan.parts T rest)
+
 abbrev pub plan_in : Plan → Signature → ℕ → Elaborating Lines
-plan_in plan S left = cond (unmarked S) (and_next (enter_plan S plan left) (λ T rest. report_parts plan 0 plan.parts T rest)) (deep left)
+plan_in plan S left = cond (unmarked S) (opened_in plan S left) (deep left)
 
 -- ---- drafts
 

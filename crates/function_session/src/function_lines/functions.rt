@@ -1,8 +1,9 @@
-ghost use Rattle.std.specs.Prelude.{◌≡◌, ◌≤◌, ◌+◌, OnErr};
+ghost use Rattle.std.specs.Prelude.{◌≡◌, ◌≤◌, ◌+◌, OnErr, true};
+ghost use Rattle.drafts.specs.draft_checks.Checks.{unmarked};
 ghost use Rattle.drafts.specs.draft_entering.Conditions.{Extends};
 ghost use Rattle.elab_session.specs.Sessions.{IsReady};
 ghost use Rattle.function_session.specs.function_lines.Conditions.{IsOfFunction, IsWorkingOn};
-ghost use Rattle.function_session.specs.function_lines.FunctionMade as spec;
+ghost use Rattle.function_session.specs.function_lines.Phases as spec;
 ghost use Rattle.function_session.specs.function_lines.LineMeanings.{lines_of};
 ghost use Rattle.function_session.specs.function_lines.Opened.{function_in, plan_in};
 ghost use Rattle.function_checks.specs.function_refusals.RefusalMeanings.{Elaborates};
@@ -10,27 +11,29 @@ ghost use Rattle.leaf_terms.specs.PlanMeanings.{plan_of};
 ghost use Rattle.resolve.specs.PatternMeanings.{fun_of};
 ghost use Rattle.theory.specs.Signatures.{IsPrefix};
 
-use crate::function_laws::report_laws::plan_is_opened;
 use crate::function_lines::ClauseLine;
-use crate::function_lines::entering::enter_plan;
+use crate::function_lines::entering::{enter_plan, is_open};
 use crate::function_lines::levels::level_of;
 use crate::function_lines::planning::plan_over;
 use crate::function_lines::reporting::report_parts;
 use core_sig::Signature;
-use core_terms::{Items, Units};
+use core_terms::{Items, Stop, Units};
 use function_checks::function_refusals::FunctionRefusal;
 use leaf_terms::Plan;
 use resolve::FunCore;
 use std::alloc::Global;
 
-/// Adds the entries of a plan, and answers the lines of its clauses, as the code makes them. After an error some entries are there.
-fn report_by_code(
+/// Adds the entries of a function's plan, and answers the lines of its clauses, where no name of a family or of a constructor holds a `!`.
+/// After an error some entries are there.
+fn report_opened(
     alloc: Global,
     sig: &mut Signature,
     plan: &Plan,
     units: &mut Units,
 ) -> Result<Items<ClauseLine>, FunctionRefusal>
-    requires { IsReady sig.old }
+    requires signature { IsReady sig.old }
+    requires unmarked { unmarked sig.old ≡ true }
+    requires function { IsOfFunction sig.old (plan_of plan.now) }
     ensures answer { Elaborates (lines_of sig.new) result units.new.left (spec.plan_reported (plan_of plan.now) sig.old units.old.left) }
     ensures sum { units.new.left + units.new.spent ≡ units.old.left + units.old.spent }
     ensures spends { units.new.left ≤ units.old.left }
@@ -48,7 +51,8 @@ fn report_by_code(
     )
 }
 
-/// Adds the entries of a function's plan, and answers the lines of its clauses. After an error some entries are there.
+/// Adds the entries of a function's plan, and answers the lines of its clauses, or Deep where a name of a family or of a constructor holds
+/// a `!`. After an error some entries are there.
 fn report_plan(
     alloc: Global,
     sig: &mut Signature,
@@ -62,8 +66,10 @@ fn report_plan(
     ensures spends { units.new.left ≤ units.old.left }
     ensures longer { Extends sig.old sig.new }
 {
-    plan_is_opened();
-    report_by_code(alloc, sig, plan, units)
+    if !is_open(sig) {
+        return Err(FunctionRefusal::Stop(Stop::Deep));
+    }
+    report_opened(alloc, sig, plan, units)
 }
 
 /// Adds the entries of a function, and answers the lines of its clauses. After an error some entries are there.

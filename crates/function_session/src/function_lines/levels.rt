@@ -1,7 +1,7 @@
 ghost use Rattle.std.specs.Prelude.{◌≡◌, ◌≤◌, ◌+◌, [], ◌∷◌};
 ghost use Rattle.core_terms.specs.Meanings.{tree_of};
 ghost use Rattle.clause_reports.specs.elaboration.Refusals as spec;
-ghost use Rattle.function_session.specs.function_lines.FunctionMade as made;
+ghost use Rattle.function_session.specs.function_lines.Phases as phases;
 ghost use Rattle.function_checks.specs.function_refusals.RefusalMeanings.{Elaborates};
 ghost use Rattle.kernel_check.specs.Checking.{infer_sort_of};
 ghost use Rattle.kernel_reduce.specs.Reduction.{nesting};
@@ -62,7 +62,7 @@ pub(crate) fn level_of(
     units: &mut Units,
 ) -> Result<u8, FunctionRefusal>
     requires { AreWellScoped sig.now [] (tree_of ty.now ∷ []) }
-    ensures answer { Elaborates (λ level. level) result units.new.left (made.level_of sig.now (tree_of ty.now) units.old.left) }
+    ensures answer { Elaborates (λ level. level) result units.new.left (phases.level_of sig.now (tree_of ty.now) units.old.left) }
     ensures sum { units.new.left + units.new.spent ≡ units.old.left + units.old.spent }
     ensures spends { units.new.left ≤ units.old.left }
 {

@@ -1,11 +1,11 @@
-ghost use Rattle.std.specs.Prelude.{Ok, Some, option_map};
+ghost use Rattle.std.specs.Prelude.{◌≡◌, Ok, Some, option_map, true};
 ghost use Rattle.clause_reports.specs.Generated.{all_name};
 ghost use Rattle.core_sig.specs.Meanings.{family_of};
-ghost use Rattle.core_terms.specs.Answers.{Gives};
+ghost use Rattle.clause_reports.specs.elaboration.Functions.{first_domains as domains, recursion_in as found};
+ghost use Rattle.core_terms.specs.Answers.{Gives, are_low};
 ghost use Rattle.core_terms.specs.Meanings.{tele_of};
-ghost use Rattle.function_session.specs.function_lines.FunctionMade as spec;
+ghost use Rattle.function_session.specs.function_lines.Phases as spec;
 ghost use Rattle.leaf_terms.specs.PlanMeanings.{parts_of, plan_of};
-ghost use Rattle.leaf_terms.specs.RecursionMade.{made_at};
 ghost use Rattle.leaf_terms.specs.RecursionMeanings as meanings;
 
 use core_sig::{Family, Signature};
@@ -32,14 +32,15 @@ fn values_in(alloc: Global, level: u8, parts: &[Part], r: &Recursion) -> Result<
     }
 }
 
-/// Recursion at a position of a telescope, or none where there is no position.
+/// Recursion at a position of a telescope that is not too high, or none where there is no position.
 fn recursion_in<'a>(
     alloc: Global,
     sig: &'a Signature,
     tele: &[Term],
     position: Option<u32>,
 ) -> Result<Option<Recursion<'a>>, Stop>
-    ensures { Gives (option_map meanings.recursion_of) result (made_at sig.now (tele_of tele.now) position) }
+    requires { are_low (tele_of tele.now) ≡ true }
+    ensures { Gives (option_map meanings.recursion_of) result (Ok (found sig.now (tele_of tele.now) position)) }
 {
     match position {
         None => Ok(None),
@@ -53,16 +54,17 @@ fn recursion<'a>(
     sig: &'a Signature,
     plan: &Plan,
 ) -> Result<Option<Recursion<'a>>, Stop>
-    ensures { Gives (option_map meanings.recursion_of) result (spec.recursion_by_type sig.now (plan_of plan.now)) }
+    requires { are_low (domains (plan_of plan.now).arity (plan_of plan.now).type) ≡ true }
+    ensures { Gives (option_map meanings.recursion_of) result (Ok (found sig.now (domains (plan_of plan.now).arity (plan_of plan.now).type) (plan_of plan.now).position)) }
 {
     let tele = first_domains(alloc, plan.arity, &plan.ty)?;
     recursion_in(alloc, sig, tele.as_slice(), plan.position)
 }
 
-/// The name of the recursion's values, which equations name where there is recursion and a helper. Deep where the function's telescope
-/// is too high.
+/// The name of the recursion's values, which equations name where there is recursion and a helper.
 pub(crate) fn values_name(alloc: Global, sig: &Signature, plan: &Plan) -> Result<Option<Name>, Stop>
-    ensures { Gives (λ name. name) result (spec.values_name sig.now (plan_of plan.now)) }
+    requires { are_low (domains (plan_of plan.now).arity (plan_of plan.now).type) ≡ true }
+    ensures { Gives (λ name. name) result (Ok (spec.values_named sig.now (plan_of plan.now))) }
 {
     match recursion(alloc, sig, plan)? {
         None => Ok(None),

@@ -5,3 +5,4 @@ pub mod EnteringInTurn
 pub mod PartLevels
 pub mod PlanNames
 pub mod FunctionNames
+pub mod EnteringFunctions

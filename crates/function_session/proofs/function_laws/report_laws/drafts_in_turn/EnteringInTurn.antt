@@ -16,7 +16,7 @@ use Rattle.drafts.proofs.draft_entering.Longer.{defined-longer, extends-on, gene
 use Rattle.tree_translation.specs.Laws.{name_of}
 use Rattle.drafts.proofs.entering_laws.EnteredOpen.{entering-extends}
 use Rattle.entry_laws.proofs.OnlyConstants.{Each, each-append, each-weaker}
-use Rattle.function_session.specs.function_laws.report_laws.made_functions.Entering.{NamesInTurn}
+use Rattle.function_session.specs.function_laws.report_laws.drafts_in_turn.Laws.{NamesInTurn}
 use Rattle.function_session.proofs.plan_laws.EnteredDraft.{draft-defined}
 use Rattle.entry_laws.proofs.GrowingDrafts.{Grows, IsKnown, among-each}
 

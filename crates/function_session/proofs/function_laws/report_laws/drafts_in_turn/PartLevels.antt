@@ -26,16 +26,12 @@ use Rattle.tree_translation.specs.Entries.{ordered_variables}
 use Rattle.tree_translation.specs.Recursion.{Recursion, order_of, ordered_telescope, ordered_term}
 use Rattle.with_abstraction.specs.Abstractions.{Abstracted, abstract_over_of}
 use Rattle.function_session.proofs.plan_laws.Answering.{dots-have, if-ok, next-has}
+use Rattle.function_session.specs.function_lines.Conditions.{ArePartsLow}
 
 -- the helpers that are walked
 abbrev AreLow : List Walked → Type 0
 AreLow [] = Unit {0}
 AreLow (w ∷ helpers) = (w.part.level ≤ greatest_level) × AreLow helpers
-
--- and parts
-abbrev pub ArePartsLow : List Part → Type 0
-ArePartsLow [] = Unit {0}
-ArePartsLow (part ∷ parts) = (part.level ≤ greatest_level) × ArePartsLow parts
 
 low-append : (first rest : List Walked) → AreLow first → AreLow rest → AreLow (first ++ rest)
 low-append [] rest h k = k

@@ -41,7 +41,8 @@ use Rattle.function_session.proofs.plan_laws.FamilyLevels.{level-low}
 use Rattle.entry_laws.proofs.GrowingDrafts.{CanBeMade}
 use Rattle.exact_laws.proofs.own_scopes.PlainFunctions.{own-plain}
 use Rattle.exact_laws.proofs.step_scopes.AllDrafts.{step-own}
-use Rattle.function_session.proofs.function_laws.report_laws.drafts_in_turn.PartLevels.{ArePartsLow, part-low, plan-low}
+use Rattle.function_session.proofs.function_laws.report_laws.drafts_in_turn.PartLevels.{part-low, plan-low}
+use Rattle.function_session.specs.function_lines.Conditions.{ArePartsLow}
 use Rattle.function_session.proofs.function_laws.report_laws.drafts_in_turn.RunNames.{IsFitting}
 use Rattle.function_session.proofs.plan_laws.EnteredNames.{can-recur}
 use Rattle.function_session.proofs.plan_laws.PlanLevels.{position-low}

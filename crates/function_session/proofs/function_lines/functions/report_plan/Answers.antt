@@ -1,12 +1,12 @@
-use Rattle.std.proofs.Common.{subst as transport}
+use Rattle.std.proofs.Common.{sym, ◌∙◌, subst as transport}
 use Rattle.function_checks.specs.function_refusals.RefusalMeanings.{Elaborates}
 use Rattle.leaf_terms.specs.PlanMeanings.{plan_of}
 use Rattle.function_session.specs.function_lines.LineMeanings.{lines_of}
+use Rattle.function_session.proofs.function_lines.ReportedParts.{plan-is}
 use Rattle.function_session.proofs.function_lines.functions.report_plan.Goals as goal
 
 pub returns-clause-answer : goal.returns-clause-answer
 returns-clause-answer c =
-    let ready = c.requires.ready in
-    transport (Elaborates (lines_of c.report_by_code.new.sig) c.report_by_code.result c.report_by_code.new.units.left)
-    (c.plan_is_opened.ensures c.args.sig.now (plan_of c.args.plan.now) c.args.units.now.left c.requires.function ready.well_formed ready.prelude)
-    c.report_by_code.ensures.answer
+    transport (Elaborates (lines_of c.report_opened.new.sig) c.report_opened.result c.report_opened.new.units.left)
+    (plan-is (plan_of c.args.plan.now) c.args.sig.now c.args.units.now.left (sym c.is_open.ensures.is ∙ c.if-not-is_open.false))
+    c.report_opened.ensures.answer

@@ -1,30 +1,25 @@
--- A function by clauses as the code elaborates it: the answer is Deep also where a family's or constructor's name holds a `!`, where a
--- draft may not enter the signature, and where a term on the way is too high.
-use Rattle.std.specs.Prelude.{ℕ, ◌+◌, cond, Option, Some, None, List, [], ◌∷◌, ◌++◌, Result, Ok}
+-- The phases of a function by clauses, as they follow each other in code.
+use Rattle.std.specs.Prelude.{ℕ, ◌+◌, Option, Some, None, List, [], ◌∷◌, ◌++◌, Ok}
 use Rattle.theory.specs.Terms.{Term}
 use Rattle.theory.specs.Signatures.{Signature}
-use Rattle.core_terms.specs.Answers.{and_next, and_then}
+use Rattle.core_terms.specs.Answers.{and_next}
 use Rattle.core_terms.specs.CaseTrees.{Walk}
-use Rattle.core_terms.specs.declared.stop.Stop.{Stop}
 use Rattle.core_sig.specs.Drafts.{Draft}
 use Rattle.kernel_check.specs.Checking.{infer_sort_of}
 use Rattle.kernel_reduce.specs.Reduction.{nesting}
 use Rattle.resolve.specs.Functions.{Function}
+use Rattle.tree_translation.specs.Entries.{translate}
 use Rattle.tree_translation.specs.Plans.{Plan, Part}
 use Rattle.tree_translation.specs.Recursion.{Recursion}
-use Rattle.leaf_terms.specs.RecursionMade.{made_at}
-use Rattle.function_entries.specs.CodeEntries.{translate_made}
 use Rattle.clause_reports.specs.DraftEntering.{Names, enter_mention, enter_needed}
 use Rattle.tree_translation.specs.Naming.{part_named}
 use Rattle.clause_reports.specs.Generated.{all_name}
-use Rattle.clause_reports.specs.Reports.{Line, Reference, Reported}
-use Rattle.clause_lines.specs.CodeReports.{report_made}
-use Rattle.drafts.specs.draft_checks.Checks.{enterable, unmarked}
-use Rattle.clause_reports.specs.elaboration.Functions.{ClauseLine, Lines, first_domains, function_level, own_part, plan_of}
+use Rattle.clause_reports.specs.Reports.{Line, Reference, Reported, report_of}
+use Rattle.clause_reports.specs.elaboration.Functions.{ClauseLine, Lines, enter_plan, first_domains, function_level, plan_of, recursion_in}
 use Rattle.clause_reports.specs.elaboration.Refusals.{Elaborating, OfType, answers, granted, or_halts, owner_of, reporting}
-use Rattle.clause_reports.specs.elaboration.Walking.{Given, Opened, Session, walk_clauses}
-use Rattle.function_plans.specs.CodePlans.{plan_made}
-use Rattle.function_session.specs.function_lines.Opened.{checked_entered, deep, plan_in, session_at}
+use Rattle.clause_reports.specs.elaboration.Walking.{Opened, Session, walk_clauses}
+use Rattle.function_plans.specs.CodePlans.{plan_after}
+use Rattle.function_session.specs.function_lines.Opened.{checked_entered, plan_in}
 
 -- ---- the type
 
@@ -35,55 +30,42 @@ level_of S type left =
 
 -- ---- the plan
 
--- once the clauses are walked
-abbrev pub plan_given : Session → Function → Opened → Given → ℕ → Elaborating Plan
-plan_given s f part given left =
-    plan_made s f.type f.arity part.level (record { part = part; clauses = f.clauses; walks = given.walks; sides = given.sides }) given.helpers
-    given.uses left
-
-abbrev pub plan_from : Session → Function → Opened → ℕ → Elaborating Plan
-plan_from s f part left = and_next (walk_clauses s 0 part 0 1 f.clauses left) (λ given rest. plan_given s f part given rest)
-
-abbrev pub plan_over : Signature → Function → (level : ℕ) → ℕ → Elaborating Plan
-plan_over S f level left = plan_from (session_at S f) f (own_part f level) left
+-- the walks of a function's clauses, over a signature that has the function, and then its plan
+abbrev pub plan_walked : Session → Function → Opened → ℕ → Elaborating Plan
+plan_walked s f part left =
+    and_next (walk_clauses s 0 part 0 1 f.clauses left) (λ given rest.
+    plan_after s f.type f.arity part.level (record { part = part; clauses = f.clauses; walks = given.walks; sides = given.sides }) given.helpers
+    given.uses rest)
 
 -- ---- entries
-
--- a draft of the function with this name, or Deep where it may not enter
-abbrev pub draft_entered : Signature → (name : List ℕ) → Draft → ℕ → Elaborating Signature
-draft_entered S name d left = cond (enterable S d) (checked_entered S name d left) (deep left)
-
-abbrev pub drafts_entered : Signature → (name : List ℕ) → List Draft → ℕ → Elaborating Signature
-drafts_entered S name [] left = answers (Ok S) left
-drafts_entered S name (d ∷ drafts) left = and_next (draft_entered S name d left) (λ T rest. drafts_entered T name drafts rest)
 
 -- `D!all.L`, where there is recursion, and a helper beside the function itself
 abbrev pub values_in : (level : ℕ) → List Part → Option Recursion → Option (List ℕ)
 values_in level (own ∷ helper ∷ helpers) (Some r) = Some (all_name r.family level)
 values_in level parts r = None
 
--- recursion at the plan's position in its written type
-abbrev pub recursion_by_type : Signature → Plan → Result (Option Recursion) Stop
-recursion_by_type S plan = made_at S (first_domains plan.arity plan.type) plan.position
-
-abbrev pub values_name : Signature → Plan → Result (Option (List ℕ)) Stop
-values_name S plan = and_then (recursion_by_type S plan) (λ r. Ok (values_in plan.level plan.parts r))
+-- the same, with recursion at the plan's position in its written type
+abbrev pub values_named : Signature → Plan → Option (List ℕ)
+values_named S plan = values_in plan.level plan.parts (recursion_in S (first_domains plan.arity plan.type) plan.position)
 
 abbrev pub values_entered : Signature → (name : List ℕ) → (values : Option (List ℕ)) → ℕ → Elaborating Signature
 values_entered S name None left = answers (Ok S) left
 values_entered S name (Some values) left = reporting S (owner_of name 0) (enter_mention enter_needed S (Names values) left)
 
+-- drafts of the function with this name, one after the other
+abbrev pub drafts_entered : Signature → (name : List ℕ) → List Draft → ℕ → Elaborating Signature
+drafts_entered S name [] left = answers (Ok S) left
+drafts_entered S name (d ∷ drafts) left = and_next (checked_entered S name d left) (λ T rest. drafts_entered T name drafts rest)
+
 -- the drafts of a plan, and then the values that its equations name
 abbrev pub all_entered : Signature → (name : List ℕ) → List Draft → (values : Option (List ℕ)) → ℕ → Elaborating Signature
 all_entered S name drafts values left = and_next (drafts_entered S name drafts left) (λ T rest. values_entered T name values rest)
 
+-- the drafts to which a plan translates, and then those values
 abbrev pub translated : Signature → Plan → ℕ → Elaborating Signature
 translated S plan left =
-    and_next (answers (or_halts (translate_made S plan)) left) (λ drafts rest.
-    and_next (answers (or_halts (values_name S plan)) rest) (λ values more. all_entered S plan.name drafts values more))
-
-abbrev pub plan_entered : Signature → Plan → ℕ → Elaborating Signature
-plan_entered S plan left = cond (unmarked S) (translated S plan left) (deep left)
+    and_next (answers (or_halts (translate S plan)) left) (λ drafts rest.
+    and_next (answers (Ok (values_named S plan)) rest) (λ values more. all_entered S plan.name drafts values more))
 
 -- ---- lines
 
@@ -98,7 +80,7 @@ reference_of k number w = record { part = k; clause = number; walk = w }
 
 unfoldable pub clause_reported : Plan → (k number : ℕ) → Walk → Signature → ℕ → Elaborating Reported
 clause_reported plan k number w S left =
-    reporting S (owner_of (part_named plan.name k) number) (report_made S plan (reference_of k number w) left)
+    reporting S (owner_of (part_named plan.name k) number) (report_of S plan (reference_of k number w) left)
 
 abbrev pub lines_with : Signature → List ClauseLine → Lines
 lines_with S lines = record { lines = lines; signature = S }
@@ -119,8 +101,9 @@ parts_reported plan k (part ∷ parts) made S left =
 
 -- ---- all of it
 
+-- the entries of a plan, and then its lines
 abbrev pub plan_reported : Plan → Signature → ℕ → Elaborating Lines
-plan_reported plan S left = and_next (plan_entered S plan left) (λ T rest. parts_reported plan 0 plan.parts [] T rest)
+plan_reported plan S left = and_next (enter_plan S plan left) (λ T rest. parts_reported plan 0 plan.parts [] T rest)
 
 -- the function phase by phase, each over what the one before it left
 abbrev pub function_phases : Signature → Function → (fuel : ℕ) → Elaborating Lines

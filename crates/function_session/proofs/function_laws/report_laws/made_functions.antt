@@ -1,3 +1,0 @@
-pub mod EnteredPlans
-pub mod EnteringFunctions
-pub mod ReportedParts
