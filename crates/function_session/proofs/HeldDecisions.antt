@@ -1,4 +1,4 @@
--- What a session says of its decisions stays so, whatever is declared; and an accepted decision is as written.
+-- The decisions of a session stay there, whatever is declared; and an accepted decision is as written.
 use Rattle.std.proofs.Common.{◌≡◌, ◌-◌, List, [], ◌∷◌, ◌++◌, All, length, Result, Ok, Err, IfOk, refl, sym, ap, ap₂, subst as transport, arith, length-append}
 use Rattle.std.proofs.lemmas.List.Elements.{All-push, All-weaker}
 use Rattle.theory.specs.Signatures.{Signature, Entry, Definition, FamilyOf, IsEntryAt, IsPrefix}

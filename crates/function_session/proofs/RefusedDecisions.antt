@@ -1,4 +1,4 @@
--- What holds of each refusal of a decision, by the phase that it comes from.
+-- Refusals of decisions, by the phase that each comes from.
 use Rattle.std.proofs.Common.{◌≡◌, ℕ, List, Result, Ok, Err, IfErr, refl}
 use Rattle.theory.specs.Signatures.{Signature}
 use Rattle.core_terms.specs.Answers.{and_then}

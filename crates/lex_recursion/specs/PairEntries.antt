@@ -51,7 +51,7 @@ pair_recursion S plan second = option_and_then (λ j. pair_recursion_at S (own_p
 abbrev pub first_count : PairRecursion → ℕ
 first_count p = length (first_positions p.outer)
 
--- |F is x b F2 is2 y|: the level of b2
+-- |F is x b G js y|: the level of b2
 abbrev pub second_count : PairRecursion → ℕ
 second_count p = length (first_positions p.inner) + 1
 
@@ -68,7 +68,7 @@ pair_recursions plan p = recursions_named (motive_name plan.name) (Some p.outer)
 
 -- ---- the second motive
 
--- (F) (is) (x) (b : D!below.L ps (F!motive F) is x) (F2) (is2) (y) (R2)
+-- (F) (is) (x) (b : D!below.L ps (F!motive F) is x) (G) (js) (y) (Q)
 abbrev pub pair_telescope : Plan → PairRecursion → Naming → Telescope
 pair_telescope plan p number =
     let order = order_over plan p in
@@ -85,7 +85,7 @@ pair_goal plan p =
 abbrev pub below_names : Plan → PairRecursion → List (List ℕ)
 below_names plan p = below_name p.outer.family plan.level ∷ motive_name plan.name ∷ []
 
--- F!motive2 : (F) -> (is) -> (x) -> (b) -> (F2) -> (is2) -> (y) -> Type L, with the body \F is x b F2 is2 y. (R2) -> goal
+-- F!motive2 : (F) -> (is) -> (x) -> (b) -> (G) -> (js) -> (y) -> Type L, with the body \F is x b G js y. (Q) -> goal
 abbrev pub motive2_entry : Plan → PairRecursion → Result Draft Stop
 motive2_entry plan p =
     let first = second_count p in
@@ -100,7 +100,7 @@ motive2_entry plan p =
 abbrev pub behind_first : PairRecursion → (depth : ℕ) → List Term → List Term
 behind_first p depth terms = map (λ t. lift t 1 (depth - first_count p)) terms
 
--- the variables of the old positions after (F) (is) (x) (b) (F2) (is2) (y)
+-- the variables of the old positions after (F) (is) (x) (b) (G) (js) (y)
 abbrev pub begun_terms : Plan → PairRecursion → List Term
 begun_terms plan p =
     let depth = length (first_positions p.inner) in behind_first p depth (ordered_variables (order_over plan p) depth)
@@ -109,7 +109,7 @@ begun_terms plan p =
 abbrev pub begun_value : PairRecursion → Term
 begun_value p = Var (length (first_positions p.inner) - first_count p)
 
--- D2!below.L ps2 (F!motive2 F is x b F2) is2 y
+-- E!below.L qs (F!motive2 F is x b G) js y
 abbrev pub second_below : Plan → PairRecursion → Naming → Term
 second_below plan p number =
     let terms = begun_terms plan p in
@@ -126,7 +126,7 @@ step2_node plan p number = record {
 abbrev pub step2_names : Plan → PairRecursion → List (List ℕ)
 step2_names plan p = below_names plan p ++ below_name p.inner.family plan.level ∷ motive2_name plan.name ∷ []
 
--- F!step2 : (F) -> (is) -> (x) -> (b) -> (F2) -> (is2) -> (y) -> (b2) -> (R2) -> goal, with the tree for its body
+-- F!step2 : (F) -> (is) -> (x) -> (b) -> (G) -> (js) -> (y) -> (b2) -> (Q) -> goal, with the tree for its body
 abbrev pub step2_entry : Signature → Plan → PairRecursion → Result Draft Stop
 step2_entry S plan p =
     let part = own_part plan in
@@ -148,7 +148,7 @@ step_terms plan p =
 abbrev pub step_value : Plan → PairRecursion → Term
 step_value plan p = Var (length (own_part plan).tele - first_count p)
 
--- D2!rec.L ps2 (F!motive2 F is x b F2) (F!step2 F is x b F2) is2 y R2
+-- E!rec.L qs (F!motive2 F is x b G) (F!step2 F is x b G) js y Q
 abbrev pub second_call : Plan → PairRecursion → Naming → Term
 second_call plan p number =
     let tele = (own_part plan).tele in

@@ -1,4 +1,4 @@
--- What the entries of a function over a pair of positions are made of.
+-- A function over a pair of positions, of which its entries are made.
 use Rattle.std.specs.Prelude.{ℕ, Some, List, [], ◌∷◌, length, Result}
 use Rattle.theory.specs.Terms.{Term}
 use Rattle.theory.specs.Telescopes.{variables}

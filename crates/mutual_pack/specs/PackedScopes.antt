@@ -1,4 +1,4 @@
--- What is packed is scoped where the written types are.
+-- The packed entries are scoped where the written types are.
 use Rattle.std.specs.Prelude.{◌≡◌, Ok, ℕ, ◌+◌, ◌<◌, length, All}
 use Rattle.theory.specs.Signatures.{Signature, IsPrefix}
 use Rattle.theory.specs.SignatureScopes.{IsConstantNumber, IsConstructorNumber, IsFamilyNumber, IsScoped}

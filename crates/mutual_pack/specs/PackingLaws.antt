@@ -1,4 +1,4 @@
--- What is packed stands for the members: none of them is left in the types of constructors, and over a signature in which each member is
+-- The packed family stands for the members: none of them is left in the types of constructors, and over a signature in which each member is
 -- its definition these types convert to the written ones.
 use Rattle.std.specs.Prelude.{◌≡◌, Ok, ℕ, ◌+◌, ◌≤◌, ◌<◌, ◌&&◌, ◌||◌, not, Bool, true, false, cond, is_some, length, slice_get, All}
 use Rattle.theory.specs.Families.{mentions}

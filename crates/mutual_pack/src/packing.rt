@@ -50,7 +50,7 @@ fn members_of(base: u32, d: &MutualRaw) -> Result<Members, Stop>
     })
 }
 
-/// What is packed, or Deep where it is too high.
+/// The packed family, the tag family and the members' definitions, or Deep where one is too high.
 fn bounded(packed: Packed) -> Result<Packed, MutualStop>
     ensures { GivesUnless spec.IsUnforeseen packed_of result (spec.bounded_packed (packed_of packed)) }
 {

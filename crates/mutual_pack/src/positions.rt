@@ -142,7 +142,7 @@ fn offence_in(g: Members, number: u32, cons: &[RawCon]) -> Option<(u32, u32)>
     }
 }
 
-/// The same among the constructors of all members.
+/// The first such argument among the constructors of all members.
 #[tactic(auto, using(crate::proofs::Flattening::counted))]
 pub fn offence(g: Members, number: u32, members: &[RawMember]) -> Option<(u32, u32)>
     requires number { number + length (all_constructors (map member_of members.now)) < 2 ^ 32 }

@@ -67,7 +67,7 @@ begun_terms own p =
 abbrev pub value_at : PairRecursion → (depth : ℕ) → List Term
 value_at p depth = Var (depth - first_count p) ∷ []
 
--- F!motive2 F is x b F2
+-- F!motive2 F is x b G
 abbrev pub begun_motive : Plan → PairRecursion → Naming → List Term → Term
 begun_motive plan p number terms =
     motive_with number (second_named (motive2_name plan.name) p) terms (value_at p (length (first_positions p.inner)))
@@ -112,15 +112,15 @@ abbrev pub step_terms : Part → PairRecursion → List Term
 step_terms own p =
     let count = length own.tele in behind_first p count (ordered_variables (own_order own p.outer) count)
 
--- F!motive2 or F!step2 at F is x b F2
+-- F!motive2 or F!step2 at F is x b G
 abbrev pub second_at : (name : List ℕ) → Part → PairRecursion → Naming → List Term → Term
 second_at name own p number terms = motive_with number (second_named name p) terms (value_at p (length own.tele))
 
--- is2 y R2
+-- js y Q
 abbrev pub second_rest : Part → PairRecursion → List Term → List Term
 second_rest own p terms = scrutinee_at p.inner terms ++ terms_at (remaining_positions (length own.tele) p.inner) terms
 
--- ps2 (F!motive2 F is x b F2) (F!step2 F is x b F2)
+-- qs (F!motive2 F is x b G) (F!step2 F is x b G)
 abbrev pub second_motives : Plan → Part → PairRecursion → Naming → List Term → List Term
 second_motives plan own p number terms =
     parameters_at own.tele p.inner terms

@@ -30,7 +30,7 @@ fn step_terms(alloc: Global, own: &Part, p: &PairRecursion) -> Result<Tele, Stop
     behind_first(alloc, p, count, terms.as_slice())
 }
 
-/// The constant of a name at `F is x b F2`.
+/// The constant of a name at `F is x b G`.
 fn second_constant(
     alloc: Global,
     naming: Naming,
@@ -45,7 +45,7 @@ fn second_constant(
     second_at(alloc, naming, name, p, terms, values.as_slice())
 }
 
-/// `is2 y R2`.
+/// `js y Q`.
 fn second_rest(alloc: Global, own: &Part, p: &PairRecursion, terms: &[Term]) -> Result<Tele, Stop>
     ensures { Gives tele_of result (Ok (spec.second_rest (part_of own.now) (pair_of p.now) (tele_of terms.now))) }
 {
@@ -55,7 +55,7 @@ fn second_rest(alloc: Global, own: &Part, p: &PairRecursion, terms: &[Term]) -> 
     with_terms(alloc, scrutinee, rest.as_slice())
 }
 
-/// `ps2 (F!motive2 F is x b F2) (F!step2 F is x b F2)`.
+/// `qs (F!motive2 F is x b G) (F!step2 F is x b G)`.
 #[tactic(auto, using(function_entries::proofs::Joining::pushing))]
 fn second_motives(
     alloc: Global,
@@ -75,7 +75,7 @@ fn second_motives(
     Ok(made)
 }
 
-/// `ps2 (F!motive2 F is x b F2) (F!step2 F is x b F2) is2 y R2`.
+/// `qs (F!motive2 F is x b G) (F!step2 F is x b G) js y Q`.
 #[tactic(auto, using(leaf_terms::proofs::Mentions::joining))]
 fn second_arguments(
     alloc: Global,
@@ -92,7 +92,7 @@ fn second_arguments(
     with_terms(alloc, made, rest.as_slice())
 }
 
-/// `D2!rec.L ps2 (F!motive2 F is x b F2) (F!step2 F is x b F2) is2 y R2`.
+/// `E!rec.L qs (F!motive2 F is x b G) (F!step2 F is x b G) js y Q`.
 fn second_call(
     alloc: Global,
     naming: Naming,

@@ -52,7 +52,7 @@ fn pair_below(
     below_type(alloc, naming, plan, &p.outer, terms.as_slice())
 }
 
-/// `(F) (is) (x) (b : D!below.L ps (F!motive F) is x) (F2) (is2) (y) (R2)`.
+/// `(F) (is) (x) (b : D!below.L ps (F!motive F) is x) (G) (js) (y) (Q)`.
 pub fn pair_telescope(
     alloc: Global,
     naming: Naming,

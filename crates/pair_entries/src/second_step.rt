@@ -107,7 +107,7 @@ fn begun_terms(alloc: Global, own: &Part, p: &PairRecursion) -> Result<Tele, Sto
     behind_first(alloc, p, depth, terms.as_slice())
 }
 
-/// `F!motive2 F is x b F2`, where both recursions are begun.
+/// `F!motive2 F is x b G`, where both recursions are begun.
 fn begun_motive(
     alloc: Global,
     naming: Naming,
@@ -122,7 +122,7 @@ fn begun_motive(
     second_at(alloc, naming, &name, p, terms, values.as_slice())
 }
 
-/// `D2!below.L ps2 (F!motive2 F is x b F2) is2 y`.
+/// `E!below.L qs (F!motive2 F is x b G) js y`.
 fn second_below(
     alloc: Global,
     naming: Naming,
@@ -137,7 +137,7 @@ fn second_below(
     below_with(alloc, naming, plan, &p.inner, motive, terms.as_slice())
 }
 
-/// `(F) (is) (x) (b) (F2) (is2) (y) (b2) (R2)`.
+/// `(F) (is) (x) (b) (G) (js) (y) (b2) (Q)`.
 fn step2_telescope(
     alloc: Global,
     naming: Naming,

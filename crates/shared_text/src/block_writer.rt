@@ -63,7 +63,7 @@ fn definition_with(texts: &Texts, name: &[u8], ty: Id, body: Id) -> Result<Items
     Ok(Items::from_vec(out))
 }
 
-/// What is met in the line of a family.
+/// The terms that are met in the line of a family.
 fn met_in_family(alloc: Global, pool: &Pool, ids: &FamilyIds) -> Result<Met, Stop>
     requires params { AreLive pool.now ids.now.params.items }
     requires ty { IsTrue ((pool_held pool.now).live ids.now.ty) }
@@ -79,7 +79,7 @@ fn met_in_family(alloc: Global, pool: &Pool, ids: &FamilyIds) -> Result<Met, Sto
     Ok(met)
 }
 
-/// What is met in the line of a definition.
+/// The terms that are met in the line of a definition.
 fn met_in_definition(alloc: Global, pool: &Pool, ty: Id, body: Id) -> Result<Met, Stop>
     requires ty { IsTrue ((pool_held pool.now).live ty) }
     requires body { IsTrue ((pool_held pool.now).live body) }

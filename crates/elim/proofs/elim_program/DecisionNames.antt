@@ -1,4 +1,4 @@
--- What the names in the declaration of a decision stand for.
+-- The names in the declaration of a decision, and what they stand for.
 use Rattle.std.proofs.Common.{◌≡◌, ℕ, ◌<◌, List, [], length, Option, Some, None, Result, Ok, Err, refl, ap, ◌∙◌, arith}
 use Rattle.theory.specs.Signatures.{Signature}
 use Rattle.core_terms.specs.Answers.{and_then}

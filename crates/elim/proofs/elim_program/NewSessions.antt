@@ -1,4 +1,4 @@
--- What is written, and what is counted, in a session that begins with the prelude.
+-- Lines and counts of a session that begins with the prelude.
 use Rattle.std.proofs.Common.{◌≡◌, ℕ, List, Result, Ok, Err, Bool, sym, ap, subst, ◌∙◌}
 use Rattle.surface_syntax.specs.Trees.{Decl}
 use Rattle.function_session.specs.Declaring.{new_session}

@@ -1,4 +1,4 @@
--- What the walks of a function's clauses give to its plan.
+-- The walks of a function's clauses in its plan.
 use Rattle.std.proofs.Common.{ℕ}
 use Rattle.clause_reports.specs.elaboration.Functions.{own_part}
 use Rattle.clause_reports.specs.elaboration.Walking.{Given, Walked}

@@ -1,4 +1,4 @@
--- What an accepted decision is, and what the decisions of a session stay.
+-- An accepted decision is as written, and the decisions of a session stay there.
 use Rattle.std.specs.Prelude.{◌≡◌, ℕ, List, [], All, length, Ok}
 use Rattle.theory.specs.Families.{Family}
 use Rattle.theory.specs.Terms.{Term}
