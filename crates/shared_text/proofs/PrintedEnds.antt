@@ -1,9 +1,8 @@
 -- The ends of printed terms: with a term all that is below it is among them, and what is below it is lower.
 use Rattle.std.proofs.Common.{◌≡◌, ◌⊎◌, inl, inr, ℕ, ◌<◌, ◌≤◌, max, Bool, true, false, List, [], ◌∷◌, ◌++◌, refl, ap, sym, ◌∙◌, subst, append-nil, arith}
-use Rattle.std.proofs.lemmas.Bool.{false≢true, true≢false}
+use Rattle.std.proofs.lemmas.Bool.{false≢true}
 use Rattle.theory.specs.Terms.{Term, height}
 use Rattle.theory.specs.Terms.Term.{Var, Sort, Pi, Lam, App, Let, Const, Fam, Con, Elim, AxiomK}
-use Rattle.core_text.specs.TermReading.{is_application}
 use Rattle.shared_text.specs.PrintedTerms.{is_among, ends_of, joined}
 use Rattle.shared_text.proofs.Joined.{IsIn, in-left, in-right, in-either, is-only, joined-members, among-append}
 
@@ -31,19 +30,6 @@ ends-inner (AxiomK i m) = refl
 -- of the function of an application: of a shorter application only what is below it
 pub shorter-ends : (f a : Term) → ends_of true (App f a) ≡ inner (App f a)
 shorter-ends f a = append-nil (ends_of true f ++ ends_of false a)
-
-pub head-ends : (f : Term) → is_application f ≡ false → ends_of true f ≡ ends_of false f
-head-ends (Var n) h = refl
-head-ends (Sort i) h = refl
-head-ends (Pi a b) h = refl
-head-ends (Lam a b) h = refl
-head-ends (App f a) h = absurd (true≢false h)
-head-ends (Let a t b) h = refl
-head-ends (Const n) h = refl
-head-ends (Fam n) h = refl
-head-ends (Con n c) h = refl
-head-ends (Elim n m) h = refl
-head-ends (AxiomK i m) h = refl
 
 -- ---- with a term all that is below it
 

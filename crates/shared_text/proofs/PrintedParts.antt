@@ -1,30 +1,15 @@
 -- Printed terms are the written ones and all printed children below them; a shared one stands at two or more places.
 use Rattle.std.proofs.Common.{◌≡◌, ◌⊎◌, inl, inr, ◌↔◌, ◌<◌, ◌≤◌, Bool, true, false, cond, ◌&&◌, ◌||◌, nat_le, nat_lt, List, [], ◌∷◌, ◌++◌, flat_map, filter, refl, ap, sym, ◌∙◌, subst, arith}
-use Rattle.std.proofs.lemmas.Bool.{and_from, and_parts, false≢true, true≢false}
+use Rattle.std.proofs.lemmas.Bool.{and_from, and_parts, false≢true}
 use Rattle.std.proofs.lemmas.Bool.Decides.{nat_tests}
 use Rattle.theory.specs.Terms.{Term, height}
 use Rattle.theory.specs.Terms.Term.{Var, Sort, Pi, Lam, App, Let, Const, Fam, Con, Elim, AxiomK}
-use Rattle.core_text.specs.TermReading.{is_application}
 use Rattle.shared_text.specs.BlockLaws.{IsPrinted, IsWritten, IsChild, PrintedTermsAreBelow, SharedTermsStandTwice}
 use Rattle.shared_text.specs.PrintedTerms.{same, is_among, ends_of, is_shared, places, printed_children, printed_terms, shared_terms, spine_members, times}
 use Rattle.shared_text.proofs.Joined.{IsIn, same-is, in-left, in-right, in-either, by-either, in-last, is-only, joined-members}
 use Rattle.shared_text.proofs.PrintedEnds.{inner, ends-inner, shorter-ends, IsClosed, closed-ends, closed-append}
 
 -- ---- children are below
-
--- the head and the arguments of an application
-members-of-head : (f : Term) → is_application f ≡ false → spine_members f ≡ f ∷ []
-members-of-head (Var n) h = refl
-members-of-head (Sort i) h = refl
-members-of-head (Pi a b) h = refl
-members-of-head (Lam a b) h = refl
-members-of-head (App f a) h = absurd (true≢false h)
-members-of-head (Let a t b) h = refl
-members-of-head (Const n) h = refl
-members-of-head (Fam n) h = refl
-members-of-head (Con n c) h = refl
-members-of-head (Elim n m) h = refl
-members-of-head (AxiomK i m) h = refl
 
 pub ends-last : (t : Term) → IsIn t (ends_of false t)
 ends-last t = subst (IsIn t) (sym (ends-inner t)) (in-last (inner t) t)

@@ -10,7 +10,6 @@ ghost use Rattle.shared_text.specs.CodeMeanings.{AreFamilyIds, AreLive, AreMet, 
 ghost use Rattle.shared_text.specs.PrintedTerms.{shared_terms, written_terms};
 ghost use Rattle.shared_text.specs.Walks.{meet_all};
 
-use crate::bytes::write;
 use crate::id_set::IdSet;
 use crate::line_writer::{write_definition, write_family};
 use crate::met::{Met, meet_all, nothing_met};
@@ -19,6 +18,7 @@ use crate::term_writer::{Texts, write_full};
 use crate::written::{FamilyIds, family_ids, imported};
 use core_sig::{RawFamily, Signature};
 use core_terms::{Items, Stop, Term};
+use core_text::bytes::write;
 use std::alloc::Global;
 use term_pool::{Id, Pool};
 

@@ -3,7 +3,6 @@
 
 mod block_printer;
 mod block_writer;
-mod bytes;
 mod id_set;
 mod laws;
 mod line_writer;

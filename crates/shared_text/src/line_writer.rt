@@ -6,11 +6,11 @@ ghost use Rattle.term_pool.specs.Pools.{pool_held};
 ghost use Rattle.shared_text.specs.BlockText.{constructors_by, family_by, parameters_by, shared_text, text_by};
 ghost use Rattle.shared_text.specs.CodeMeanings.{AreFamilyIds, AreIdsOf, AreLive, shared_of, trees};
 
-use crate::bytes::write;
 use crate::term_writer::{Texts, write_shared};
 use crate::written::FamilyIds;
 use core_sig::{RawCon, RawFamily};
 use core_terms::Stop;
+use core_text::bytes::write;
 use term_pool::Id;
 
 /// Writes the types of parameters, each after a space and in parentheses.

@@ -8,12 +8,12 @@ ghost use Rattle.theory.specs.Terms as tree;
 ghost use Rattle.shared_text.specs.BlockText.{head_number, in_full, numbered, shared_text};
 ghost use Rattle.shared_text.specs.CodeMeanings.{AreLive, shared_of};
 
-use crate::bytes::{write, write_numbered};
 use crate::id_set::IdSet;
 use crate::met::is_application;
 use crate::tree_set::number_of_tree;
 use core_sig::Signature;
 use core_terms::{Stop, Term};
+use core_text::bytes::{write, write_numbered};
 use core_text::print_term;
 use std::alloc::Global;
 use term_pool::{Id, Node, Pool};
