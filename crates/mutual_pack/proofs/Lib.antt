@@ -12,6 +12,7 @@ pub mod RecursionsConvert
 pub mod Runs
 mod ScopedEquations
 pub mod ScopedInductions
+mod TagResults
 pub mod Tags
 mod TooHigh
 pub mod Unfolding

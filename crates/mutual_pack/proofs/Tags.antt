@@ -30,12 +30,12 @@ use Rattle.mutual_pack.proofs.Unfolding.{member-form, below-count}
 
 -- ---- heads and spines
 
-head_of-applied : (head : Term) (ts : List Term) → head_of (applied head ts) ≡ head_of head
+pub head_of-applied : (head : Term) (ts : List Term) → head_of (applied head ts) ≡ head_of head
 head_of-applied head [] = refl
 head_of-applied head (t ∷ ts) = head_of-applied (App head t) ts
 
 -- a term with a family as its head mentions it
-mentions-head : (n : ℕ) (t : Term) → head_of t ≡ Fam n → mentions n t ≡ true
+pub mentions-head : (n : ℕ) (t : Term) → head_of t ≡ Fam n → mentions n t ≡ true
 mentions-head n (App f a) e = ap (λ b. b || mentions n a) (mentions-head n f e)
 mentions-head n (Fam f) e = let same : f ≡ n = cc in (Decides-eqb f n).1 same
 mentions-head n (Var v) e = absurd cc

@@ -10,3 +10,4 @@ pub mod PackedEntries
 pub mod PackedScopes
 pub mod Packing
 pub mod PackingLaws
+pub mod TagLaws

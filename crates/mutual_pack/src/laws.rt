@@ -4,6 +4,7 @@ ghost use Rattle.mutual_pack.specs.EquationScopes.{SidesAreScoped};
 ghost use Rattle.mutual_pack.specs.InductionLaws.{InductionUnfolds};
 ghost use Rattle.mutual_pack.specs.PackedScopes.{PackedIsScoped};
 ghost use Rattle.mutual_pack.specs.PackingLaws.{LevelIsLow, MembersUnfold, NoMemberIsLeft, PackedIsPositive};
+ghost use Rattle.mutual_pack.specs.TagLaws.{ConstructorsAreAtTheirTags};
 
 /// The level of what is packed leaves room for two levels above it.
 pub fn level_is_low()
@@ -23,6 +24,11 @@ pub fn packed_is_positive()
 /// The packed family is scoped.
 pub fn packed_is_scoped()
     ensures { PackedIsScoped }
+{}
+
+/// At a tag the packed family has the constructors of the tag's member, and no others.
+pub fn constructors_are_at_their_tags()
+    ensures { ConstructorsAreAtTheirTags }
 {}
 
 /// The type of each constructor as packed converts to the written one, where the members are their definitions.
