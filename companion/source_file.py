@@ -198,21 +198,47 @@ class Parser:
 
     def family(self) -> tuple:
         """Takes a family behind its name, and answers the names of the parameters and the constructors."""
-        names, constructors = [], []
+        names = []
         while self.look() == "(":
             names.append(self.look(1))
             self.skip()
+        constructors = self.constructors()
+        if self.look() == "with":
+            while self.look() == "with":
+                self.take()
+                self.take()
+                constructors += self.constructors()
+            constructors += self.tags()
+        return tuple(names), tuple(constructors)
+
+    def constructors(self) -> list:
+        """Takes the type of a family and its constructors, and answers these."""
+        found = []
         self.take(":")
         self.skip_term(("{",))
         self.take("{")
         while self.look() != "}":
-            if constructors:
+            if found:
                 self.take(";")
             name = self.take().text
             self.take(":")
-            constructors.append(Constructor(name, self.products((";", "}"))))
+            found.append(Constructor(name, self.products((";", "}"))))
         self.take("}")
-        return tuple(names), tuple(constructors)
+        return found
+
+    def tags(self) -> list:
+        """Takes the end of families that refer to each other, `in FAMILY TAGS { t ; .. }`, and answers the tags."""
+        found = []
+        self.take("in")
+        self.take()
+        self.take()
+        self.take("{")
+        while self.look() != "}":
+            if found:
+                self.take(";")
+            found.append(Constructor(self.take().text, ()))
+        self.take("}")
+        return found
 
     def decision(self) -> None:
         """Takes what stands after the name of a decision of equality: `= data FAMILY DECISION`."""

@@ -1,10 +1,10 @@
 -- An entry that enters keeps the signature's properties.
-use Rattle.std.proofs.Common.{◌≡◌, ℕ, Option, Some, None, slice_get, Result, Ok, Err, IfOk, OnErr, refl, sym, subst as transport}
+use Rattle.std.proofs.Common.{◌≡◌, ℕ, Option, Some, None, slice_get, Result, Ok, Err, IfOk, OnErr, refl, sym, ap, subst as transport}
 use Rattle.theory.specs.Families.{Family}
 use Rattle.theory.specs.Signatures.{Entry, FamilyOf, EliminatorAt, AxiomKAt, Definition, Signature, IsPrefix}
 use Rattle.theory.specs.WellFormed.{IsWellFormed}
 use Rattle.core_text.specs.RawEntries.{RawEntry, RawFamilyOf, RawEliminator, RawAxiomK, RawDefinition}
-use Rattle.family_check.specs.Entering.{Entered, instance_of}
+use Rattle.family_check.specs.Entering.{Entered, entered_at, instance_of}
 use Rattle.family_check.specs.Outcomes.{FamilyStop}
 use Rattle.family_check.specs.Scopes.{IsSettled}
 use Rattle.family_check.proofs.Extending.{axiom_k-extends, declare-extends, define-extends, instance-extends}
@@ -12,7 +12,7 @@ use Rattle.core_terms.proofs.Answers.{Answers}
 use Rattle.family_check.proofs.PreludeEntries.{equality-there}
 use Rattle.family_check.proofs.ScopedEntering.{axiom_k-settles, declare-settles, define-settles, instance-settles}
 use Rattle.family_check.proofs.Soundness.{axiom_k-keeps, declare-keeps, define-keeps, instance-keeps}
-use Rattle.elab_session.specs.Entering.{CanEnter, Enters, answered, checked, eliminator_in}
+use Rattle.elab_session.specs.Entering.{CanEnter, Declares, Enters, answered, checked, eliminator_in, enter_with, refused}
 use Rattle.elab_session.specs.Laws.{EnterExtends, EnterKeepsReady}
 use Rattle.elab_session.specs.Sessions.{IsReady}
 use Rattle.elab_session.specs.declared.refusal.Refusal.{Refusal}
@@ -69,3 +69,13 @@ pub entry-stays : (P : Signature → Type 0) (S T : Signature) (r : Result ℕ R
     → Enters T r meant → OnErr r (T ≡ S) → IfOk meant (λ x. P x.signature) → P S → P T
 entry-stays P S T (Ok n) meant is same h p = transport (λ m. IfOk m (λ x. P x.signature)) (sym is) h
 entry-stays P S T (Err e) meant is same h p = transport P (sym same) p
+
+-- the same, with the units that are left
+pub entry-left : (P : Signature → Type 0) (S T : Signature) (start fuel left end : ℕ) (raw : RawEntry) (r : Result ℕ Refusal)
+    → Declares (entered_at T) r end (enter_with S start fuel raw left) → OnErr r (T ≡ S) → Answers (λ x. P x.signature) (checked S raw left) → P S → P T
+entry-left P S T start fuel left end raw (Ok n) is same h p = by (checked S raw left).0 h (ap (λ m. m.0) is)
+  where
+    by : (o : Result Entered FamilyStop) → IfOk o (λ x. P x.signature) → Ok (entered_at T n) ≡ answered (refused S start fuel raw) o → P T
+    by (Ok e) h same = transport (λ (x : Entered). P x.signature) (sym (let q : entered_at T n ≡ e = cc in q)) h
+    by (Err e) h other = absurd cc
+entry-left P S T start fuel left end raw (Err e) is same h p = transport P (sym same) p

@@ -13,7 +13,7 @@ use Rattle.resolve.specs.Resolving.{resolve_term}
 use Rattle.elab_session.specs.Entering.{Declaring, answers, enter_with}
 use Rattle.elab_session.specs.Refusals.{IsUnforeseen, unresolved}
 use Rattle.elab_session.specs.declared.refusal.Refusal.{Refusal}
-use Rattle.elab_session.specs.declared.refusal.Refusal.TheVariants.{NotYet}
+use Rattle.elab_session.specs.declared.refusal.Refusal.TheVariants.{Memory}
 
 -- the name of an accepted declaration, and the signature that has it
 pub record Declared : Type 0 where
@@ -40,11 +40,17 @@ resolve_definition S x ty body =
 abbrev pub resolve_family : Signature → Word → List surf.Typed → surf.Surf → List surf.Typed → Result RawEntry ResolveStop
 resolve_family S x params ty cons = and_then (family S x params ty cons) (λ raw. Ok (RawFamilyOf raw))
 
--- The entry that is declared. A form that is not implemented yet is refused at its first name.
+-- a definition or a family
+abbrev pub IsPlain : surf.Decl → Type 0
+IsPlain (surf.Def x ty body) = Unit {0}
+IsPlain (surf.Data x params ty cons) = Unit {0}
+IsPlain d = ⊥
+
+-- the entry that is declared; no declaration of another form is asked for
 abbrev pub resolve_entry : Signature → surf.Decl → Result RawEntry Refusal
 resolve_entry S (surf.Def x ty body) = or_unresolved (resolve_definition S x ty body)
 resolve_entry S (surf.Data x params ty cons) = or_unresolved (resolve_family S x params ty cons)
-resolve_entry S d = Err (NotYet (declared_word d).start)
+resolve_entry S d = Err Memory
 
 -- ---- entries
 

@@ -21,6 +21,7 @@ use surface_syntax::{Decl, Word};
 /// signature is as it was.
 pub fn declare(alloc: Global, sig: &mut Signature, fuel: u64, d: &Decl) -> Result<Name, Refusal>
     requires ready { IsReady sig.old }
+    requires plain { spec.IsPlain (decl_of d.now) }
     ensures answer { spec.Answers sig.new result (spec.declare_of sig.old fuel (decl_of d.now)) }
     ensures err { OnErr result (sig.new ≡ sig.old) }
     ensures longer { IsPrefix sig.old sig.new }
@@ -44,6 +45,7 @@ fn declare_with(
     units: &mut Units,
 ) -> Result<Name, Refusal>
     requires ready { IsReady sig.old }
+    requires plain { spec.IsPlain (decl_of d.now) }
     ensures answer { Declares (λ name. spec.accepted_as name sig.new) result units.new.left (spec.declare_with sig.old fuel (decl_of d.now) units.old.left) }
     ensures err { OnErr result (sig.new ≡ sig.old) }
     ensures sum { units.new.left + units.new.spent ≡ units.old.left + units.old.spent }

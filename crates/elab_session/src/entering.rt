@@ -54,8 +54,29 @@ pub fn enter_entry(
     enter(alloc, sig, 0, fuel, raw, &mut units)
 }
 
-/// Adds an entry, whose name is at the offset `start`, and answers its number. All of it may spend `fuel` units. After a
-/// refusal the signature is as it was, and the units that were spent stay spent.
+/// Adds an entry, whose name is at the offset `start`, and answers its number. All of the declaration may spend `fuel` units.
+/// After a refusal the signature is as it was, and the units that were spent stay spent.
+pub fn enter_raw(
+    alloc: Global,
+    sig: &mut Signature,
+    start: u32,
+    fuel: u64,
+    raw: RawEntry,
+    units: &mut Units,
+) -> Result<u32, Refusal>
+    requires ready { IsReady sig.old }
+    requires entry { spec.CanEnter sig.old (raw_entry_of raw) }
+    ensures answer { spec.Declares (entered_at sig.new) result units.new.left (spec.enter_with sig.old start fuel (raw_entry_of raw) units.old.left) }
+    ensures err { OnErr result (sig.new ≡ sig.old) }
+    ensures sum { units.new.left + units.new.spent ≡ units.old.left + units.old.spent }
+    ensures spends { units.new.left ≤ units.old.left }
+    ensures longer { IsPrefix sig.old sig.new }
+    ensures ready { IsReady sig.new }
+{
+    enter(alloc, sig, start, fuel, raw, units)
+}
+
+/// Adds an entry by its kind.
 pub(crate) fn enter(
     alloc: Global,
     sig: &mut Signature,

@@ -3,7 +3,7 @@ use core_terms::{Name, Term};
 
 /// A definition that is resolved or read.
 #[derive(Drop)]
-pub(crate) struct Definition {
+pub struct Definition {
     pub name: Name,
     pub ty: Term,
     pub body: Term,
@@ -11,7 +11,7 @@ pub(crate) struct Definition {
 
 /// An entry as a declaration gives it or a core file shows it.
 #[derive(Drop)]
-pub(crate) enum RawEntry {
+pub enum RawEntry {
     Family(RawFamily),
     Elim(u32, u8),
     AxiomK(u8, u8),

@@ -35,15 +35,18 @@ pub struct FailingCall {
 
 /// Why a declaration is refused.
 ///
-/// `NotYet` is a form of declaration that is not implemented yet, with the offset of its first name. `Fuel` has the units that a
-/// declaration may spend, `Deep` is a term higher than 2,000 or kernel calls nested deeper than that. `UnknownName`,
-/// `Duplicate`, `WrongArity` and `NotLinear` have an offset and the name that is there. `NotPositive` has a constructor
-/// and its argument, counted from 1, or 0 for its result; `IndexTooLarge` has a constructor and its argument, or an index
-/// where there is no constructor. `IllTyped`: the checker rejects a written part.
+/// `Fuel` has the units that a declaration may spend, `Deep` is a term higher than 2,000 or kernel calls nested deeper than
+/// that. `UnknownName`, `Duplicate`, `WrongArity` and `NotLinear` have an offset and the name that is there. `NotPositive` has
+/// a constructor and its argument, counted from 1, or 0 for its result; `IndexTooLarge` has a constructor and its argument, or
+/// an index where there is no constructor. `IllTyped`: the checker rejects a written part.
 ///
 /// `NotPlainFamily`, `NotDecision` and `NotFirstOrder` are reasons of decisions of equality: the name is that of nothing whose equality
 /// can be decided, or of nothing into which it can be; `NotFirstOrder` has the first constructor and its first argument, counted from 1,
 /// for whose equality nothing stands.
+///
+/// `TagCount`, `MemberLevel` and `Unequal` are reasons of families that refer to each other. `TagCount` has the number of members, which is
+/// not that of the tags; `MemberLevel` the first member, counted from 1, whose level is not that of the first one, or the first one where
+/// this leaves no room above it. `Unequal`: the sides of the equation of a member's constructor do not convert.
 ///
 /// The others are reasons of functions by clauses, with the function or helper and the number of its clause, counted from 1.
 /// `Stuck`: unification is stuck at each variable that a clause asks for. `Uncovered`: terms for which no clause is left.
@@ -56,7 +59,6 @@ pub struct FailingCall {
 #[derive(Debug, Drop)]
 pub enum Refusal {
     Memory,
-    NotYet(u32),
     Fuel(u64),
     Deep,
     UnknownName(u32, Name),
@@ -69,6 +71,15 @@ pub enum Refusal {
     NotPlainFamily(Name),
     NotDecision(Name),
     NotFirstOrder(Name, u32),
+    TagCount(u32),
+    MemberLevel(u32),
+    Unequal {
+        member: Name,
+        con: Name,
+        ctx: Text,
+        left: Text,
+        right: Text,
+    },
     IllTyped {
         part: PartName,
         place: Place,

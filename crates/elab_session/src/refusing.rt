@@ -119,7 +119,7 @@ fn unentered(
 }
 
 /// A refusal of entering, with texts over one signature, or Memory where there is none for these.
-pub(crate) fn refusal(
+pub fn refusal(
     alloc: Global,
     sig: &Signature,
     names: &[Name],

@@ -13,12 +13,13 @@ use crate::Refusal;
 use crate::raw_entry::{Definition, RawEntry};
 use core_sig::Signature;
 use core_terms::{Items, copy_name};
-use resolve::{ResolveStop, declared_word, resolve_data, resolve_term};
+use resolve::{ResolveStop, resolve_data, resolve_term};
 use std::alloc::Global;
 use surface_syntax::{Decl, Surf, Word};
 
-/// The entry that is declared. A form that is not implemented yet is refused at its first name.
+/// The entry that is declared.
 pub(crate) fn resolve_entry(alloc: Global, sig: &Signature, d: &Decl) -> Result<RawEntry, Refusal>
+    requires { spec.IsPlain (decl_of d.now) }
     ensures answer { GivesUnless IsUnforeseen raw_entry_of result (spec.resolve_entry sig.now (decl_of d.now)) }
     ensures can { IfOk result (λ raw. CanEnter sig.now (raw_entry_of raw)) }
 {
@@ -31,9 +32,7 @@ pub(crate) fn resolve_entry(alloc: Global, sig: &Signature, d: &Decl) -> Result<
             let family = resolve_data(alloc, sig, d)?;
             Ok(RawEntry::Family(family))
         }
-        Decl::Decide { .. } | Decl::Mutual { .. } | Decl::Fun { .. } => {
-            Err(Refusal::NotYet(declared_word(d).start))
-        }
+        Decl::Decide { .. } | Decl::Mutual { .. } | Decl::Fun { .. } => unreachable!(),
     }
 }
 

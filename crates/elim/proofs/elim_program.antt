@@ -1,6 +1,7 @@
 pub mod Accepted
 mod ElaboratedInLine
 pub mod DecisionNames
+pub mod DeclaredNames
 pub mod Entries
 mod FileLines
 pub mod FirstNames
@@ -8,9 +9,14 @@ pub mod Following
 mod FunctionInLine
 mod FunctionTexts
 pub mod Lines
+mod MutualInLine
+pub mod MutualPhases
+mod MutualWords
 pub mod NewSessions
+pub mod NoEquations
 pub mod OneOutput
 pub mod OutputInLine
+pub mod PackedOutcomes
 pub mod Reading
 pub mod RefusedBlocks
 pub mod Shown

@@ -3,4 +3,5 @@ mod Adding
 mod AddingReports
 mod Full
 mod NewEntries
+mod NewMutualEntries
 mod Runs

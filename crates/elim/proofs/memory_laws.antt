@@ -10,6 +10,7 @@ pub mod ProofWalks
 pub mod Reports
 pub mod Clauses
 pub mod Functions
+pub mod MutualFamilies
 pub mod Decisions
 pub mod Stated
 pub mod Meant

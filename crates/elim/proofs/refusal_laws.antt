@@ -3,6 +3,7 @@ pub mod Decisions
 pub mod Declarations
 pub mod Ends
 pub mod FunctionCauses
+pub mod MutualCauses
 pub mod PartScopes
 pub mod PlanCauses
 pub mod Rejections

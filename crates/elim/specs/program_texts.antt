@@ -4,5 +4,4 @@ pub mod Lines
 pub mod Refusals
 pub mod Statuses
 pub mod Texts
-pub mod Unbuilt
 pub mod Words

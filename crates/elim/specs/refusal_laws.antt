@@ -3,3 +3,4 @@ pub mod unit_laws
 pub mod Parts
 pub mod Causes
 pub mod Laws
+pub mod MutualCauses

@@ -91,12 +91,12 @@ pub fn declare_needs_no_memory()
     ensures { DeclareNeedsNoMemory }
 {}
 
-/// No declaration is.
+/// Nor is a function.
 pub fn elaborate_needs_no_memory()
     ensures { ElaborateNeedsNoMemory }
 {}
 
-/// No declaration in a session is, a decision of equality neither.
+/// No declaration in a session is, a decision of equality neither, nor families that refer to each other.
 pub fn declared_needs_no_memory()
     ensures { DeclaredNeedsNoMemory }
 {}

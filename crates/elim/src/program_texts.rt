@@ -6,7 +6,6 @@ mod refused_functions;
 mod status;
 mod text_stop;
 mod texts;
-mod unbuilt;
 mod words;
 
 pub use command_line::asked;

@@ -2,6 +2,7 @@
 pub mod accepted_laws;
 pub mod unit_laws;
 
+ghost use Rattle.elim.specs.refusal_laws.MutualCauses.{MutualIsCaused};
 ghost use Rattle.elim.specs.refusal_laws.Laws.{DeclarationIsCaused, IllTypedIsDenied, MeantIsCaused, MismatchIsDenied, NotSmallerFails, RefusalIsCaused, RejectedDecisionIsDenied, RejectedIsDenied, UncoveredIsApart};
 
 /// A refusal of a function, as it is elaborated, has its cause at the clauses.
@@ -47,4 +48,9 @@ pub fn ill_typed_is_denied()
 /// Where a decision of equality is refused as rejected, the checker rejects the entry that is shown.
 pub fn rejected_decision_is_denied()
     ensures { RejectedDecisionIsDenied }
+{}
+
+/// Families that refer to each other are refused for a cause at the declaration, or by the checker.
+pub fn mutual_is_caused()
+    ensures { MutualIsCaused }
 {}

@@ -88,10 +88,33 @@ pub fn braces(s: Source<'_>, span: Span) -> Option<Span> {
     Some(Span::new(open.saturating_add(1), to))
 }
 
-fn add_constructors(alloc: Global, s: Source<'_>, family: Declared, found: &mut Vec<Con>) {
-    let Some(inner) = braces(s, family.whole) else {
-        return;
-    };
+/// The family of the tags, whose names are in these braces, or the declaration itself for other braces of it.
+fn family_of(s: Source<'_>, decl: Declared, inner: Span) -> Declared {
+    let from = inner.from.saturating_sub(4);
+    if is(s, from, "in") {
+        Declared {
+            form: Form::Data,
+            name: from.saturating_add(2),
+            whole: Span::new(from, decl.whole.to),
+        }
+    } else {
+        decl
+    }
+}
+
+/// The constructors in all braces of the declaration: several families that refer to each other have some each, and then those of the tags.
+fn add_constructors(alloc: Global, s: Source<'_>, decl: Declared, found: &mut Vec<Con>) {
+    let mut rest = decl.whole;
+    for _ in decl.whole.from..decl.whole.to {
+        let Some(inner) = braces(s, rest) else {
+            return;
+        };
+        add_listed(alloc, s, family_of(s, decl, inner), inner, found);
+        rest = Span::new(inner.to.saturating_add(1), rest.to);
+    }
+}
+
+fn add_listed(alloc: Global, s: Source<'_>, family: Declared, inner: Span, found: &mut Vec<Con>) {
     for con in split(alloc, s, inner, ";").iter() {
         if is_name(s, con.from) {
             let ty = Span::new(con.from.saturating_add(2), con.to);

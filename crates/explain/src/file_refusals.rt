@@ -162,24 +162,6 @@ pub fn bad_token(page: &mut Page, m: &Matter<'_>) {
     );
 }
 
-pub fn not_yet(page: &mut Page, m: &Matter<'_>) {
-    let at = number(m, 3);
-    let token = token_at(m.s, at);
-    let spot = Spot {
-        from: at,
-        to: crate::source::end_of(m.s, token.saturating_add(1)),
-    };
-    let advice =
-        "declare one family with an index that says which of them is meant (examples/tags.elim).";
-    simple(
-        page,
-        m,
-        spot,
-        "families that refer to each other are not implemented yet",
-        advice,
-    );
-}
-
 pub fn nested(page: &mut Page, m: &Matter<'_>) {
     let at = number(m, 3);
     let token = token_at(m.s, at);

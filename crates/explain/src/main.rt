@@ -16,6 +16,7 @@ mod family_refusals;
 mod file_refusals;
 mod labels;
 mod matter;
+mod mutual_refusals;
 mod name_refusals;
 mod naming;
 mod nearest;

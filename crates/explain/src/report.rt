@@ -10,7 +10,7 @@ use crate::source::{
 };
 use crate::{
     clause_refusals, core_files, cover_refusals, decision_refusals, family_refusals, file_refusals,
-    name_refusals, recursion_refusals, syntax_refusals, type_refusals, warnings,
+    mutual_refusals, name_refusals, recursion_refusals, syntax_refusals, type_refusals, warnings,
 };
 use core_terms::Items;
 use std::alloc::Global;
@@ -69,7 +69,6 @@ fn of_file(page: &mut Page, m: &Matter<'_>) {
         b"TooLong" => file_refusals::too_long(page, m),
         b"NotUtf8" => file_refusals::not_utf8(page, m),
         b"BadToken" => file_refusals::bad_token(page, m),
-        b"NotYet" => file_refusals::not_yet(page, m),
         b"Nested" => file_refusals::nested(page, m),
         b"Syntax" => syntax_refusals::syntax(page, m),
         _ => simple(
@@ -90,7 +89,7 @@ fn of_declaration(page: &mut Page, m: &Matter<'_>) {
         b"NotLinear" => name_refusals::not_linear(page, m),
         b"IllTyped" => type_refusals::ill_typed(page, m),
         b"BadFamily" => family_refusals::bad_family(page, m),
-        b"NotPositive" => family_refusals::not_positive(page, m),
+        b"NotPositive" => not_positive(page, m),
         b"IndexTooLarge" => family_refusals::index_too_large(page, m),
         _ => of_decision(page, m),
     }
@@ -101,6 +100,23 @@ fn of_decision(page: &mut Page, m: &Matter<'_>) {
         b"NotPlainFamily" => decision_refusals::not_plain_family(page, m),
         b"NotDecision" => decision_refusals::not_decision(page, m),
         b"NotFirstOrder" => decision_refusals::not_first_order(page, m),
+        _ => of_mutual(page, m),
+    }
+}
+
+fn not_positive(page: &mut Page, m: &Matter<'_>) {
+    if mutual_refusals::is_mutual(m) {
+        mutual_refusals::not_positive(page, m)
+    } else {
+        family_refusals::not_positive(page, m)
+    }
+}
+
+fn of_mutual(page: &mut Page, m: &Matter<'_>) {
+    match core_word(m.line, 3) {
+        b"TagCount" => mutual_refusals::tag_count(page, m),
+        b"MemberLevel" => mutual_refusals::member_level(page, m),
+        b"Unequal" => mutual_refusals::unequal(page, m),
         _ => of_function(page, m),
     }
 }

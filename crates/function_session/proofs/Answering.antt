@@ -1,5 +1,5 @@
 -- The properties of a call's answer, by the answers of the calls inside it.
-use Rattle.std.proofs.Common.{◌≡◌, ◌≢◌, ℕ, List, map, Result, Ok, Err, IfOk, OnErr, sym, ap, ◌∙◌, subst as transport}
+use Rattle.std.proofs.Common.{◌≡◌, ◌≢◌, ℕ, List, [], map, Result, Ok, Err, IfOk, OnErr, sym, ap, ap₂, ◌∙◌, subst as transport}
 use Rattle.theory.specs.Signatures.{Signature}
 use Rattle.core_terms.specs.declared.stop.Stop.TheVariants as stop
 use Rattle.surface_syntax.specs.declared.tree.Word.{Word}
@@ -29,14 +29,14 @@ pub stays : (P : Signature → Type 0) (S T : Signature) (r : Result Accepted Re
 stays P S T (Ok a) meant is same h p = transport (λ m. IfOk m (λ a. P a.signature)) (sym is) h
 stays P S T (Err e) meant is same h p = transport P (sym same) p
 
-abbrev accepts : Signature → List ClauseLine → (name : List ℕ) → Result Elaborated Refusal
-accepts T lines name = Ok (record { name = name; lines = map clause_line_of lines; signature = T })
+abbrev accepts : Signature → List ClauseLine → List (List ℕ × List ℕ) → (name : List ℕ) → Result Elaborated Refusal
+accepts T lines equations name = Ok (record { name = name; lines = map clause_line_of lines; equations = equations; signature = T })
 
 -- a function is accepted, with its lines
-pub enters : (T : Signature) (x : Word) (fuel left : ℕ) (lines : List ClauseLine) (name : List ℕ) (meant : Elaborating Lines)
-    → (Ok (lines_of T lines), left) ≡ meant → name ≡ x.text → accepts T lines name ≡ on_lines x fuel meant.0
-enters T x fuel left lines name meant is named =
-    transport (λ (m : Elaborating Lines). accepts T lines name ≡ on_lines x fuel m.0) is (ap (accepts T lines) named)
+pub enters : (T : Signature) (x : Word) (fuel left : ℕ) (lines : List ClauseLine) (equations : List (List ℕ × List ℕ)) (name : List ℕ) (meant : Elaborating Lines)
+    → (Ok (lines_of T lines), left) ≡ meant → equations ≡ [] → name ≡ x.text → accepts T lines equations name ≡ on_lines x fuel meant.0
+enters T x fuel left lines equations name meant is none named =
+    transport (λ (m : Elaborating Lines). accepts T lines equations name ≡ on_lines x fuel m.0) is (ap₂ (accepts T lines) none named)
 
 -- or a function is refused
 pub refuses : (x : Word) (fuel left : ℕ) (e : FunctionRefusal) (r : Refusal) (meant : Elaborating Lines)

@@ -17,12 +17,15 @@ use Rattle.function_session.specs.Sessions.{Session}
 use Rattle.function_session.specs.decisions.Declaring.{kept_if}
 use Rattle.function_session.specs.decisions.Entering.{accepted_at}
 use Rattle.function_session.specs.decisions.Laws.{HoldsDecisions, IsHeld, IsWrittenDecision, type_of_decision}
+use Rattle.function_session.specs.function_lines.Opened.{draft_in}
 use Rattle.function_session.specs.declared.decisions.decision.Decision.{Decision}
 use Rattle.function_session.proofs.Keeping.{elaborate-ready}
 use Rattle.function_session.proofs.Written.{elaborates-written}
 use Rattle.function_session.proofs.DeclaredDecisions.{decided-entered, decision-has}
 use Rattle.function_session.proofs.EnteredDrafts.{entered-grows, entered-typed}
 use Rattle.function_session.proofs.function_lines.Results.{longer-ready}
+use Rattle.function_session.proofs.mutual_families.EnteredInductions.{session-brings}
+use Rattle.function_session.proofs.mutual_families.WrittenMutual.{mutual-ready, mutual-written}
 
 -- ---- the signature
 
@@ -37,7 +40,8 @@ pub declare-ready : DeclareKeepsReady
 declare-ready s (surf.Def x ty body) ready = elaborate-ready s.signature s.fuel (surf.Def x ty body) ready
 declare-ready s (surf.Data x params ty cons) ready = elaborate-ready s.signature s.fuel (surf.Data x params ty cons) ready
 declare-ready s (surf.Decide x family into) ready = decision-ready s x family into ready
-declare-ready s (surf.Mutual params members family tag tags) ready = elaborate-ready s.signature s.fuel (surf.Mutual params members family tag tags) ready
+declare-ready s (surf.Mutual params members family tag tags) ready =
+    mutual-ready draft_in session-brings s.signature s.fuel (surf.Mutual params members family tag tags) ready
 declare-ready s (surf.Fun x ty clauses) ready = elaborate-ready s.signature s.fuel (surf.Fun x ty clauses) ready
 
 -- ---- as written
@@ -71,7 +75,8 @@ pub declares-written : DeclaresAsWritten
 declares-written s (surf.Def x ty body) ready = elaborates-written s.signature s.fuel (surf.Def x ty body) ready
 declares-written s (surf.Data x params ty cons) ready = elaborates-written s.signature s.fuel (surf.Data x params ty cons) ready
 declares-written s (surf.Decide x family into) ready = decision-written s x family into ready
-declares-written s (surf.Mutual params members family tag tags) ready = elaborates-written s.signature s.fuel (surf.Mutual params members family tag tags) ready
+declares-written s (surf.Mutual params members family tag tags) ready =
+    mutual-written draft_in session-brings s.signature s.fuel (surf.Mutual params members family tag tags) tt ready
 declares-written s (surf.Fun x ty clauses) ready = elaborates-written s.signature s.fuel (surf.Fun x ty clauses) ready
 
 -- ---- decisions

@@ -8,11 +8,14 @@ use Rattle.function_session.specs.Elaborating.{Elaborated, elaborate_of}
 use Rattle.function_session.specs.Sessions.{Session}
 use Rattle.function_session.specs.decisions.Declaring.{declare_decision, decisions_after}
 use Rattle.function_session.specs.decisions.Entering.{draft_entered}
+use Rattle.function_session.specs.function_lines.Opened.{draft_in}
+use Rattle.function_session.specs.mutual_families.Declaring.{declare_mutual}
 use Rattle.function_session.specs.declared.decisions.decision.Decision.{Decision}
 
 -- A declaration that may spend `fuel` units, over a signature with these decisions.
 abbrev pub declared_over : Signature → List Decision → (fuel : ℕ) → surf.Decl → Result Elaborated Refusal
 declared_over S decisions fuel (surf.Decide x family into) = declare_decision draft_entered S decisions fuel x family into
+declared_over S decisions fuel (surf.Mutual params members family tag tags) = declare_mutual draft_in S fuel (surf.Mutual params members family tag tags)
 declared_over S decisions fuel d = elaborate_of S fuel d
 
 -- the decisions once a declaration is accepted, and T is the signature with its entries

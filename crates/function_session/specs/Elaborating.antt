@@ -9,19 +9,21 @@ use Rattle.resolve.specs.declared.stop.ResolveStop.{ResolveStop}
 use Rattle.clause_reports.specs.elaboration.Functions.{ClauseLine, Lines}
 use Rattle.clause_reports.specs.elaboration.Refusals as function_refusals
 use Rattle.function_session.specs.function_lines.Opened.{function_in}
-use Rattle.elab_session.specs.Declaring.{Declared, accepted_as, declare_of}
+use Rattle.elab_session.specs.Declaring.{Declared, IsPlain, accepted_as, declare_of}
 use Rattle.elab_session.specs.Refusals.{unresolved}
 use Rattle.elab_session.specs.declared.refusal.Refusal.{Refusal}
 use Rattle.function_session.specs.Refusals.{refused_function}
 
--- the name of an accepted declaration, the lines of a function's clauses, and the signature that has it
+-- the name of an accepted declaration, the lines of a function's clauses, those of the equations of families that refer
+-- to each other, each with the names of a member and of one of its constructors, and the signature that has it
 pub record Elaborated : Type 0 where
   pub name : List ℕ
   pub lines : List ClauseLine
+  pub equations : List (List ℕ × List ℕ)
   pub signature : Signature
 
 abbrev pub with_lines : Declared → List ClauseLine → Elaborated
-with_lines d lines = record { name = d.name; lines = lines; signature = d.signature }
+with_lines d lines = record { name = d.name; lines = lines; equations = []; signature = d.signature }
 
 abbrev pub declared_of : Elaborated → Declared
 declared_of a = accepted_as a.name a.signature
@@ -48,7 +50,12 @@ on_function (Err e) go = Err (unresolved e)
 abbrev pub elaborate_function : Signature → (fuel : ℕ) → Word → surf.Surf → surf.Clauses → Result Elaborated Refusal
 elaborate_function S fuel x ty clauses = on_function (function.function S x ty clauses) (enter_function S fuel x)
 
--- A declaration. One of a form that is not implemented yet is refused at its first name.
+-- a function, a definition or a family
+abbrev pub IsElaborated : surf.Decl → Type 0
+IsElaborated (surf.Fun x ty clauses) = Unit {0}
+IsElaborated d = IsPlain d
+
+-- such a declaration; no other one is asked for
 abbrev pub elaborate_of : Signature → (fuel : ℕ) → surf.Decl → Result Elaborated Refusal
 elaborate_of S fuel (surf.Fun x ty clauses) = elaborate_function S fuel x ty clauses
 elaborate_of S fuel d = without_lines (declare_of S fuel d)

@@ -24,6 +24,7 @@ use Rattle.function_session.specs.Elaborating.{Elaborated, declared_of, elaborat
 use Rattle.function_session.specs.Evidence.{AreLinesOf, line_owner, references_from}
 use Rattle.function_session.specs.Sessions.{Session}
 use Rattle.function_session.specs.decisions.Laws.{HoldsDecisions, IsWrittenDecision}
+use Rattle.function_session.specs.mutual_families.Laws.{IsWrittenMutual}
 
 -- After a declaration the signature is again one that a session may have, and the earlier entries stay.
 pub record KeepsReady (S : Signature) (a : Elaborated) : Type 0 where
@@ -113,6 +114,7 @@ DeclareHoldsDecisions = (s : Session) (d : surf.Decl) → IsReady s.signature �
 
 abbrev pub IsAsDeclared : Session → surf.Decl → Elaborated → Type 0
 IsAsDeclared s (surf.Decide x family into) a = IsWrittenDecision s x family into a
+IsAsDeclared s (surf.Mutual params members family tag tags) a = IsWrittenMutual s.signature (surf.Mutual params members family tag tags) a
 IsAsDeclared s d a = IsAsWritten s.signature s.fuel d a
 
 abbrev pub DeclaresAsWritten : Type 0

@@ -2,6 +2,7 @@ pub mod decisions
 pub mod equation_laws
 pub mod function_laws
 pub mod function_lines
+pub mod mutual_families
 pub mod plan_laws
 pub mod Declaring
 pub mod Elaborating

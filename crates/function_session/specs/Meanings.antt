@@ -10,7 +10,7 @@ use Rattle.function_session.specs.declared.accepted.Accepted.{Accepted}
 
 -- the meaning of an accepted declaration, where the call leaves the signature T
 abbrev pub elaborated_in : Signature → Accepted → Elaborated
-elaborated_in T a = record { name = a.name; lines = map clause_line_of a.lines; signature = T }
+elaborated_in T a = record { name = a.name; lines = map clause_line_of a.lines; equations = a.mutual; signature = T }
 
 -- the answer of a call that leaves the signature T stands for `meant`, unless memory ran out
 abbrev pub Answers : Signature → Result Accepted Refusal → Result Elaborated Refusal → Type 0

@@ -11,6 +11,8 @@ use Rattle.function_session.specs.Elaborating.{Elaborated, on_function, on_lines
 use Rattle.function_session.specs.Sessions.{Session}
 use Rattle.function_session.specs.decisions.Declaring.{declare_decision}
 use Rattle.function_session.specs.decisions.Entering.{draft_meant}
+use Rattle.function_session.specs.function_lines.Opened.{checked_entered}
+use Rattle.function_session.specs.mutual_families.Declaring.{declare_mutual}
 
 -- a function that is resolved enters, with a line for each of its clauses
 abbrev pub enter_meant : Signature → (fuel : ℕ) → Word → function.Function → Result Elaborated Refusal
@@ -24,4 +26,6 @@ elaborate_meant S fuel d = without_lines (declare_of S fuel d)
 -- a declaration in a session
 abbrev pub declared_meant : Session → surf.Decl → Result Elaborated Refusal
 declared_meant s (surf.Decide x family into) = declare_decision draft_meant s.signature s.decisions s.fuel x family into
+declared_meant s (surf.Mutual params members family tag tags) =
+    declare_mutual checked_entered s.signature s.fuel (surf.Mutual params members family tag tags)
 declared_meant s d = elaborate_meant s.signature s.fuel d

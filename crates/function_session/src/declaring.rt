@@ -8,6 +8,7 @@ ghost use Rattle.function_session.specs.decisions.Laws.{IsHeld};
 use crate::Accepted;
 use crate::decisions::{Decision, declare_decision};
 use crate::elaborating::elaborate;
+use crate::mutual_families::declare_mutual;
 use core_sig::Signature;
 use elab_session::Refusal;
 use std::alloc::Global;
@@ -37,8 +38,7 @@ pub(crate) fn declare(
             family,
             decision,
         } => declare_decision(alloc, sig, decisions, fuel, name, family, decision),
-        Decl::Def { .. } | Decl::Data { .. } | Decl::Mutual { .. } | Decl::Fun { .. } => {
-            elaborate(alloc, sig, fuel, d)
-        }
+        Decl::Mutual { .. } => declare_mutual(alloc, sig, fuel, d),
+        Decl::Def { .. } | Decl::Data { .. } | Decl::Fun { .. } => elaborate(alloc, sig, fuel, d),
     }
 }

@@ -12,7 +12,7 @@ use crate::Accepted;
 use crate::function_lines::function;
 use crate::refusing::refused_function;
 use core_sig::Signature;
-use core_terms::{Units, copy_name};
+use core_terms::{Items, Units, copy_name};
 use elab_session::Refusal;
 use resolve::{FunCore, declared_word, resolve_fun};
 use std::alloc::Global;
@@ -63,6 +63,7 @@ fn enter_function(
             from,
             to: sig.len(),
             lines,
+            mutual: Items::new(alloc),
         }),
         Err(refusal) => Err(refused_function(alloc, fuel, refusal)),
     }

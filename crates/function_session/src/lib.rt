@@ -14,6 +14,7 @@ pub mod function_laws;
 pub mod function_lines;
 mod functions;
 pub mod laws;
+mod mutual_families;
 pub mod plan_laws;
 mod refusing;
 mod session;

@@ -15,6 +15,7 @@ ghost use Rattle.function_session.specs.Laws.{IsAsDeclared};
 ghost use Rattle.function_session.specs.Meanings.{Answers, elaborated_in};
 ghost use Rattle.function_session.specs.Meant.{declared_meant};
 ghost use Rattle.function_session.specs.decisions.Laws.{HoldsDecisions};
+ghost use Rattle.function_session.specs.function_laws.declaration_laws.Laws.{DeclaresUnmarked};
 
 use crate::declaring::declare;
 use crate::function_laws::declaration_laws::declared_is_meant;
@@ -83,7 +84,7 @@ impl Session {
     /// no draft may enter, and a declaration that has one to enter is Deep.
     pub fn declare(&mut self, d: &Decl) -> Result<Accepted, Refusal>
         ensures answer { Answers self.new.signature result (declared_in self.old (decl_of d.now)) }
-        ensures meant { unmarked self.old.signature ≡ true → Answers self.new.signature result (declared_meant self.old (decl_of d.now)) }
+        ensures meant { DeclaresUnmarked (decl_of d.now) → unmarked self.old.signature ≡ true → Answers self.new.signature result (declared_meant self.old (decl_of d.now)) }
         ensures err { OnErr result (self.new ≡ self.old) }
         ensures next { OnOk result (self.new ≡ with_declared self.old (decl_of d.now) self.new.signature) }
         ensures fuel { self.new.fuel ≡ self.old.fuel }

@@ -17,7 +17,6 @@ fn part(name: &PartName) -> &'static str {
 pub(crate) fn reason(refusal: &Refusal) -> &'static str {
     match refusal {
         Refusal::Memory => "Memory",
-        Refusal::NotYet(_) => "NotYet",
         Refusal::Fuel(_) => "Fuel",
         Refusal::Deep => "Deep",
         Refusal::UnknownName(_, _) => "UnknownName",
@@ -30,6 +29,9 @@ pub(crate) fn reason(refusal: &Refusal) -> &'static str {
         Refusal::NotPlainFamily(_) => "NotPlainFamily",
         Refusal::NotDecision(_) => "NotDecision",
         Refusal::NotFirstOrder(_, _) => "NotFirstOrder",
+        Refusal::TagCount(_) => "TagCount",
+        Refusal::MemberLevel(_) => "MemberLevel",
+        Refusal::Unequal { .. } => "Unequal",
         Refusal::IllTyped { part: name, .. } => part(name),
         Refusal::WrongConstructor { .. } => "WrongConstructor",
         Refusal::Stuck { .. } => "Stuck",

@@ -219,10 +219,11 @@ fn take_declaration(
 {
     match d {
         Decl::Fun { .. } => add_function(alloc, sig, out, d, asked),
-        _ => match declare(alloc, sig, 100_000_000, d) {
+        Decl::Def { .. } | Decl::Data { .. } => match declare(alloc, sig, 100_000_000, d) {
             Ok(_) => Ok(()),
             Err(_) => Err(Fault::Refused),
         },
+        Decl::Decide { .. } | Decl::Mutual { .. } => Err(Fault::Refused),
     }
 }
 

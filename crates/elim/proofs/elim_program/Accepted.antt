@@ -14,6 +14,7 @@ use Rattle.function_session.specs.Declaring.{declared_in, new_session, session_a
 use Rattle.function_session.specs.Elaborating.{Elaborated}
 use Rattle.function_session.specs.Laws.{KeepsReady, IsAsDeclared}
 use Rattle.function_session.specs.Sessions.{Session}
+use Rattle.function_session.specs.mutual_families.EquationLines.{MutualLine}
 use Rattle.function_session.proofs.HeldDecisions.{declare-ready, declares-written}
 use Rattle.elim.specs.program_texts.ClauseTexts.{clause_line, leaf_line, leaf_lines, with_leaves, clause_lines}
 use Rattle.elim.specs.declared.elim_program.counts.Counts.{Counts}
@@ -22,7 +23,7 @@ use Rattle.elim.specs.declared.program_texts.words.Work.{Work}
 use Rattle.elim.specs.elim_program.Acceptance.{Accepts, end, next, own_lines, IsAccepted}
 use Rattle.elim.specs.elim_program.Headline.{core_lines, Shows, none, more}
 use Rattle.elim.specs.elim_program.DefinedOutputs.{IsOutput, refused_words, compiles, verifies, works}
-use Rattle.elim.specs.elim_program.Outputs.{Output, accepted_line, accepted_lines, lines_after, declared_name, declared_block, followed, declarations, text_block, head_lines}
+use Rattle.elim.specs.elim_program.Outputs.{Output, accepted_line, accepted_lines, lines_after, mutual_line, note_lines, declared_name, declared_block, followed, declarations, text_block, head_lines}
 use Rattle.elim.specs.program_texts.Refusals.{candidate_lines, candidate_of, refusal_line, refused_lines, stop_line}
 use Rattle.elim.specs.program_texts.Texts.{Answer, Gives, limited}
 use Rattle.elim.specs.program_texts.Words.{asked}
@@ -109,21 +110,40 @@ unfolding AreNotes
 clauses-notes S [] = tt
 clauses-notes S (c ∷ clauses) = both-notes (with_leaves S c) (clause_lines S clauses) (clause-notes S c) (clauses-notes S clauses)
 
+equations-other : (equations : List MutualLine) → AreOther (map mutual_line equations)
+unfolding AreOther third
+equations-other [] = tt
+equations-other (e ∷ equations) = (third-other (mutual_line e) (λ k. omega (arith, k)), equations-other equations)
+
+equations-notes : (equations : List MutualLine) → AreNotes (map mutual_line equations)
+unfolding AreNotes
+equations-notes [] = tt
+equations-notes (e ∷ equations) = (refl, equations-notes equations)
+
+notes-other : (S : Signature) (clauses : List ClauseLine) (equations : List MutualLine) → AreOther (note_lines S clauses equations)
+notes-other S clauses equations =
+    both-other (clause_lines S clauses) (map mutual_line equations) (clauses-other S clauses) (equations-other equations)
+
+notes-notes : (S : Signature) (clauses : List ClauseLine) (equations : List MutualLine) → AreNotes (note_lines S clauses equations)
+notes-notes S clauses equations =
+    both-notes (clause_lines S clauses) (map mutual_line equations) (clauses-notes S clauses) (equations-notes equations)
+
 own-other : (S : Signature) (a : Elaborated) → AreOther (own_lines S a)
 own-other S a =
-    both-other (lines_after S a.signature) (clause_lines a.signature a.lines)
+    both-other (lines_after S a.signature) (note_lines a.signature a.lines a.equations)
     (core-other (lines_after S a.signature) (entries-core a.signature (length S.entries) (length a.signature.entries - length S.entries)))
-    (clauses-other a.signature a.lines)
+    (notes-other a.signature a.lines a.equations)
 
--- the core lines of entries with the lines of clauses
-pub entries-and-clauses-core : (S T : Signature) (clauses : List ClauseLine) → core_lines (lines_after S T ++ clause_lines T clauses) ≡ lines_after S T
-entries-and-clauses-core S T clauses =
-    core-lines-core (lines_after S T) (clause_lines T clauses) (entries-core T (length S.entries) (length T.entries - length S.entries))
-    ∙ ap (λ ls. lines_after S T ++ ls) (core-lines-notes (clause_lines T clauses) (clauses-notes T clauses))
+-- the core lines of entries with the lines of clauses and of equations
+entries-and-notes-core : (S T : Signature) (clauses : List ClauseLine) (equations : List MutualLine)
+    → core_lines (lines_after S T ++ note_lines T clauses equations) ≡ lines_after S T
+entries-and-notes-core S T clauses equations =
+    core-lines-core (lines_after S T) (note_lines T clauses equations) (entries-core T (length S.entries) (length T.entries - length S.entries))
+    ∙ ap (λ ls. lines_after S T ++ ls) (core-lines-notes (note_lines T clauses equations) (notes-notes T clauses equations))
     ∙ append-nil (lines_after S T)
 
 pub own-core : (S : Signature) (a : Elaborated) → core_lines (own_lines S a) ≡ lines_after S a.signature
-own-core S a = entries-and-clauses-core S a.signature a.lines
+own-core S a = entries-and-notes-core S a.signature a.lines a.equations
 
 candidates-other : (line : Option (List ℕ)) → AreOther (candidate_lines line)
 unfolding AreOther third
@@ -161,12 +181,13 @@ accepts-more d a (end s) is = next s (with_declared s d a.signature) d [] a is (
 accepts-more d a (next r s first ds b same rest) is = next r (with_declared s d a.signature) first (ds ++ d ∷ []) b same (accepts-more d a rest is)
 
 -- lines that show a signature, and those of the entries after it, show the one that has them
-pub shows-more : (P S T : Signature) (clauses : List ClauseLine) (earlier : List (List ℕ)) → Shows P S (core_lines earlier) → IsPrefix S T
-    → Shows P T (core_lines (earlier ++ (lines_after S T ++ clause_lines T clauses)))
-shows-more P S T clauses earlier shows longer =
+pub shows-more : (P S T : Signature) (clauses : List ClauseLine) (equations : List MutualLine) (earlier : List (List ℕ)) → Shows P S (core_lines earlier)
+    → IsPrefix S T → Shows P T (core_lines (earlier ++ (lines_after S T ++ note_lines T clauses equations)))
+shows-more P S T clauses equations earlier shows longer =
     let Q : List (List ℕ) → Type 0 = λ ls. Shows P T ls in
-    let core : core_lines (earlier ++ (lines_after S T ++ clause_lines T clauses)) ≡ core_lines earlier ++ lines_after S T =
-    core-lines-append earlier (lines_after S T ++ clause_lines T clauses) ∙ ap (λ ls. core_lines earlier ++ ls) (entries-and-clauses-core S T clauses) in
+    let own = lines_after S T ++ note_lines T clauses equations in
+    let core : core_lines (earlier ++ own) ≡ core_lines earlier ++ lines_after S T =
+    core-lines-append earlier own ∙ ap (λ ls. core_lines earlier ++ ls) (entries-and-notes-core S T clauses equations) in
     subst Q (sym core) (more S T (core_lines earlier) shows longer)
 
 -- the state after a declaration that is accepted
@@ -184,7 +205,7 @@ onward command all d ds earlier s a b is on =
       reached = accepts-more d a b.reached is;
       ready = on.ready;
       has_k = on.longer.has_k ∙ b.has_k;
-      shown = subst P (sym core) (shows-more (prelude command.k) S a.signature a.lines earlier b.shown on.longer);
+      shown = subst P (sym core) (shows-more (prelude command.k) S a.signature a.lines a.equations earlier b.shown on.longer);
     }
 
 shown_here : (command : Command) (all : List surf.Decl) (d : surf.Decl) (ds : List surf.Decl) (earlier : List (List ℕ)) (s : Session) (a : Elaborated) (name : List ℕ) →
@@ -208,16 +229,16 @@ shown_here command all d ds earlier s a name b is on written named = record {
   earlier = earlier;
   so_far = b.shown;
   ends = refl;
-  shown = shows-more (prelude command.k) s.signature a.signature a.lines earlier b.shown on.longer;
+  shown = shows-more (prelude command.k) s.signature a.signature a.lines a.equations earlier b.shown on.longer;
 }
 
 -- the lines of an accepted declaration and those that follow
 split-lines : (S : Signature) (a : Elaborated) (rest : List (List ℕ)) → accepted_lines S a ++ rest ≡ own_lines S a ++ accepted_line a.name ∷ rest
 split-lines S a rest =
     let entries = lines_after S a.signature in
-    let clauses = clause_lines a.signature a.lines in
+    let notes = note_lines a.signature a.lines a.equations in
     let last = accepted_line a.name ∷ [] in
-    ap (λ ls. ls ++ rest) (sym (append_assoc entries clauses last)) ∙ append_assoc (entries ++ clauses) last rest
+    ap (λ ls. ls ++ rest) (sym (append_assoc entries notes last)) ∙ append_assoc (entries ++ notes) last rest
 
 found : (command : Command) (all : List surf.Decl) (s : Session) (ds : List surf.Decl) (earlier above below : List (List ℕ)) (name : List ℕ) →
     IsBefore command all ds earlier s → (declarations s ds).lines ≡ above ++ accepted_line name ∷ below → IsFound command all (earlier ++ above) name

@@ -34,7 +34,6 @@ use Rattle.elab_session.specs.declared.refusal.Refusal.{Refusal}
 use Rattle.elab_session.proofs.Written.{declares-written}
 use Rattle.function_session.specs.Elaborating.{Elaborated, without_lines, on_lines, enter_function, on_function}
 use Rattle.function_session.specs.Declaring.{declared_in}
-use Rattle.function_session.specs.Refusals.{refused_function}
 use Rattle.function_session.specs.Sessions.{Session}
 use Rattle.function_session.specs.decisions.Declaring.{accepted_under, declare_named, declare_decision}
 use Rattle.function_session.specs.decisions.Entering.{draft_entered, draft_for, draft_of_family, on_draft, or_refused}
@@ -46,18 +45,20 @@ use Rattle.function_session.specs.function_lines.Opened.{draft_in, function_in}
 use Rattle.elim.proofs.program_texts.EnteredNames.{IsIn, DraftIn, if-ok}
 use Rattle.elim.proofs.elim_program.DecisionNames.{Named}
 use Rattle.elim.proofs.elim_program.FunctionInLine.{LinesIn, draft_opened-in, function-written}
-use Rattle.elim.proofs.elim_program.FunctionTexts.{RefusalIn, ClauseIn}
+use Rattle.elim.proofs.elim_program.FunctionTexts.{RefusalIn, ClauseIn, refusal-written}
+use Rattle.elim.proofs.elim_program.MutualInLine.{EquationIn, first-in, mutual-written}
 use Rattle.elim.proofs.program_texts.FunctionWords.{NameIn, function-in}
 use Rattle.elim.proofs.program_texts.GrammarInLine.{WordIn, DeclInLine}
 use Rattle.elim.proofs.program_texts.QuietWalks.{Any}
 use Rattle.elim.proofs.program_texts.ReportsInLine.{drafted-made}
 use Rattle.elim.proofs.program_texts.SessionInLine.{NamesIn, TextIn, Refuses, RefusesIn, AcceptedIn, Resolves, has-names, named-word, further, after, stopped-in, unresolved-in, refused-in, accepted-in}
-use Rattle.elim.proofs.program_texts.TokensInLine.{Each}
+use Rattle.surface_syntax.specs.word_laws.Words.{Each}
 
 pub record ElaboratedIn (a : Elaborated) : Type 0 where
   pub name : IsIn a.name
   pub names : NamesIn a.signature
   pub clauses : Each ClauseIn a.lines
+  pub equations : Each EquationIn a.equations
 
 -- it is written in line
 abbrev pub WrittenIn : Result Elaborated Refusal → Type 0
@@ -66,7 +67,7 @@ WrittenIn r = Splits ElaboratedIn TextIn r
 -- ---- definitions and families
 
 plain-in : (r : Result session.Declared Refusal) → RefusesIn r → IfOk r AcceptedIn → WrittenIn (without_lines r)
-plain-in (Ok d) h k = record { name = k.name; names = k.names; clauses = tt }
+plain-in (Ok d) h k = record { name = k.name; names = k.names; clauses = tt; equations = tt }
 plain-in (Err e) h k = h
 
 plain-declared-in : (S : Signature) (fuel : ℕ) (d : surf.Decl) → IsReady S → NamesIn S → DeclInLine d → WrittenIn (without_lines (session.declare_of S fuel d))
@@ -76,21 +77,8 @@ plain-declared-in S fuel d ready names h =
 
 -- ---- functions
 
-refusal-written : (fuel : ℕ) (e : refusal.Refusal) → RefusalIn e → TextIn (refused_function fuel e)
-refusal-written fuel (refusal.Halts e) h = stopped-in fuel e
-refusal-written fuel (refusal.IllTyped part place context reason) h = h
-refusal-written fuel (refusal.WrongConstructor owner context type) h = h
-refusal-written fuel (refusal.Stuck owner context left right why) h = h
-refusal-written fuel (refusal.Uncovered name context vector) h = h
-refusal-written fuel (refusal.NotAbsurd owner constructor) h = h
-refusal-written fuel (refusal.Impossible owner context left right) h = h
-refusal-written fuel (refusal.DotMismatch owner context written forced) h = h
-refusal-written fuel (refusal.SelfInType owner) h = h
-refusal-written fuel (refusal.NotSmaller rows) h = h
-refusal-written fuel (refusal.Rejected r) h = h
-
 lines-written : (x : Word) → WordIn x → (fuel : ℕ) (r : Result Lines refusal.Refusal) → Splits LinesIn RefusalIn r → WrittenIn (on_lines x fuel r)
-lines-written x h fuel (Ok l) k = record { name = h; names = k.names; clauses = k.clauses }
+lines-written x h fuel (Ok l) k = record { name = h; names = k.names; clauses = k.clauses; equations = tt }
 lines-written x h fuel (Err e) k = refusal-written fuel e k
 
 function-in-line : (S : Signature) → NamesIn S → (x : Word) → WordIn x → (fuel : ℕ) (r : Result function.Function ResolveStop) → Resolves NameIn r
@@ -148,7 +136,7 @@ draft-in S names fuel name h (Ok d) k = refused-function-in fuel (draft_in S nam
 draft-in S names fuel name h (Err e) k = stopped-in fuel e
 
 under-in : (name : List ℕ) → IsIn name → (r : Result Signature Refusal) → Splits NamesIn TextIn r → WrittenIn (accepted_under name r)
-under-in name h (Ok T) k = record { name = h; names = k; clauses = tt }
+under-in name h (Ok T) k = record { name = h; names = k; clauses = tt; equations = tt }
 under-in name h (Err e) k = k
 
 named-written : (S : Signature) → NamesIn S → (decisions : List Decision) (fuel : ℕ) (family into : Word) → WordIn family → WordIn into → (d : Named) → NamedIn d
@@ -179,6 +167,7 @@ elaborated-in s (surf.Data x params ty cons) ready names h = plain-declared-in s
 elaborated-in s (surf.Decide x family into) ready names h =
     decision-in-line s.signature names s.decisions s.fuel x family into h.0 h.1 h.2
 elaborated-in s (surf.Mutual params members f tag tags) ready names h =
-    plain-declared-in s.signature s.fuel (surf.Mutual params members f tag tags) ready names h
+    mutual-written s.signature names s.fuel params members f tag tags h ElaboratedIn (λ T equations k all.
+    record { name = first-in members f h.1 h.2; names = k; clauses = tt; equations = all })
 elaborated-in s (surf.Fun x ty clauses) ready names h =
     function-in-line s.signature names x h.0 s.fuel (function.function s.signature x ty clauses) (function-in s.signature x ty clauses h.0 h.1 h.2)

@@ -26,7 +26,7 @@ use Rattle.elim.proofs.elim_program.Lines.{third, first_line, not_empty, after_h
 use Rattle.elim.proofs.program_texts.ReadInLine.{IsRead, is-read}
 use Rattle.elim.proofs.program_texts.RefusalsInLine.{refusal-in, stop-in}
 use Rattle.elim.proofs.program_texts.SessionInLine.{EntryNamesIn, NamesIn, TextIn, each-last, entry-refused-in, prelude-in, term-in}
-use Rattle.elim.proofs.program_texts.TokensInLine.{Each}
+use Rattle.surface_syntax.specs.word_laws.Words.{Each}
 
 -- Refusals of entries.
 

@@ -1,25 +1,28 @@
 -- The declarations before an accepted one have other names: the signature after it has each name once.
-use Rattle.std.proofs.Common.{◌≡◌, ◌≢◌, ◌≤◌, ℕ, List, [], length, length-append, get_or, Option, Some, None, refl, sym, ap, subst, ◌∙◌, arith}
+use Rattle.std.proofs.Common.{◌≡◌, ◌≢◌, ◌≤◌, ℕ, List, [], ◌∷◌, ◌+◌, length, length-append, get_or, slice_get, Option, Some, None, refl, sym, ap, subst, ◌∙◌, arith}
 use Rattle.std.proofs.lemmas.List.Elements.{All-nil, All-cons}
 use Rattle.std.proofs.lemmas.Option.{slice_get_within}
 use Rattle.std.specs.List.{All}
 use Rattle.theory.specs.Families.{Family}
 use Rattle.theory.specs.Prelude.{prelude}
-use Rattle.theory.specs.Terms.{Term}
+use Rattle.theory.specs.Telescopes.{functions, products}
+use Rattle.theory.specs.Terms.{Term, Sort}
 use Rattle.theory.specs.Signatures.{Definition, Entry, FamilyOf, IsEntryAt, IsPrefix, Signature}
 use Rattle.theory.specs.WellFormed.{IsWellFormed, pushed}
-use Rattle.theory.proofs.Lists.{slice_get-last, some_is}
+use Rattle.theory.proofs.Lists.{slice_get-append_right, slice_get-last, some_is}
 use Rattle.theory.proofs.Pushing.{prefix_reflexive, prefix_transitive}
 use Rattle.theory.proofs.Widening.{prefix_keeps}
+use Rattle.core_terms.proofs.Answers.{split-parts}
 use Rattle.core_sig.specs.Names.{find}
 use Rattle.core_sig.specs.declared.entry.Found.{Found}
 use Rattle.core_sig.specs.declared.entry.Found.TheVariants.{Entry as FoundEntry}
-use Rattle.core_sig.specs.Raw.{RawFamily}
+use Rattle.core_sig.specs.Raw.{MutualRaw, RawFamily, RawMember}
 use Rattle.core_sig.specs.Settling.{entry_found}
 use Rattle.core_text.proofs.NamesFound.{definition-found, family-found}
 use Rattle.surface_syntax.specs.Trees as surf
-use Rattle.resolve.specs.DeclaredNames.{IsNewName}
+use Rattle.resolve.specs.DeclaredNames.{IsNewName, first_name}
 use Rattle.resolve.specs.Families.{family}
+use Rattle.resolve.specs.Mutual.{mutual_family}
 use Rattle.resolve.proofs.NewNames.{family-new}
 use Rattle.elab_session.specs.Declaring.{Declared, accepted_as}
 use Rattle.elab_session.specs.Sessions.{IsReady}
@@ -29,10 +32,15 @@ use Rattle.function_session.specs.Elaborating.{Elaborated, declared_of}
 use Rattle.function_session.specs.Laws.{IsAsDeclared, KeepsReady}
 use Rattle.function_session.specs.Sessions.{Session}
 use Rattle.function_session.specs.decisions.Laws.{type_of_decision}
+use Rattle.function_session.specs.mutual_families.Laws.{HasPackedEntries}
 use Rattle.function_session.proofs.HeldDecisions.{declare-ready, declares-written}
 use Rattle.elim.specs.elim_program.Acceptance.{Accepts, IsAccepted, end, next}
 use Rattle.elim.specs.elim_program.Outputs.{declared_name}
+use Rattle.mutual_pack.specs.MutualFamilies.{Packed}
+use Rattle.mutual_pack.specs.Packing.{member_entries, members_of, pack, tagged}
+use Rattle.elim.proofs.elim_program.DeclaredNames.{first-named, first_of}
 use Rattle.elim.proofs.elim_program.Lines.{if_ok}
+use Rattle.elim.proofs.elim_program.PackedOutcomes.{IsForeseenPacking, IsPackedAt, packs}
 
 -- ---- what is accepted has the declared name
 
@@ -50,7 +58,8 @@ same-name s (surf.Data x params ty cons) a name is named =
 same-name s (surf.Fun x ty clauses) a name is named = plain-name x.text a.signature a name is.accepted named
 same-name s (surf.Decide x family into) a name is named =
     plain-name x.text (pushed is.before (Definition x.text (type_of_decision is.given.family is.decided is.given.into) is.body)) a name is.accepted named
-same-name s (surf.Mutual params members whole tag tags) a name is named = absurd is.written
+same-name s (surf.Mutual params members whole tag tags) a name is named =
+    plain-name (first_name members whole).text a.signature a name is.accepted named
 
 -- ---- its entry
 
@@ -119,6 +128,40 @@ pushed-new S name e named = record {
   new = omega arith;
 }
 
+-- an entry behind those of S
+behind : (S T : Signature) (packed : Packed) (h : HasPackedEntries S packed T) (n : ℕ) (e : Entry)
+    → slice_get (FamilyOf h.tag ∷ FamilyOf h.family ∷ packed.members) n ≡ Some e → IsEntryAt T (length S.entries + n) e
+behind S T packed h n e at =
+    let es = FamilyOf h.tag ∷ FamilyOf h.family ∷ packed.members in
+    ap (λ (all : List Entry). slice_get all (length S.entries + n)) h.entries ∙ slice_get-append_right S.entries es n ∙ at
+
+-- the entry with the first name: the definition of the first member, or else the packed family
+packed-new : (S : Signature) (raw : MutualRaw) (packed : Packed) (T : Signature) → IsPackedAt S raw packed → HasPackedEntries S packed T → (members : List RawMember)
+    → raw.members ≡ members → HasNew S T (first_of members raw.family)
+packed-new S raw packed T is h [] none =
+    let own : h.family.name ≡ raw.family =
+    ap (λ (ns : List (List ℕ)). get_or ns 0 []) h.family_given.names ∙ ap (λ (p : Packed). p.family.name) is.1 in
+    record {
+      there = record { number = length S.entries + 1; entry = FamilyOf h.family; at = behind S T packed h 1 (FamilyOf h.family) refl; named = named_family h.family own };
+      new = omega arith;
+    }
+packed-new S raw packed T is h (m ∷ members) some =
+    let g = members_of (length S.entries) raw in
+    let all : packed.members ≡ member_entries g is.0 raw.parameters 0 (m ∷ members) =
+    ap (λ (p : Packed). p.members) is.1 ∙ ap (λ ms. member_entries g is.0 raw.parameters 0 ms) some in
+    let type = products raw.parameters (Sort is.0) in
+    let body = functions raw.parameters (tagged g 0 g.params) in
+    let e = Definition m.name type body in
+    record {
+      there = record {
+        number = length S.entries + 2;
+        entry = e;
+        at = behind S T packed h 2 e (ap (λ (es : List Entry). slice_get es 0) all);
+        named = named_definition type body;
+      };
+      new = omega arith;
+    }
+
 entry-new : (s : Session) (d : surf.Decl) (a : Elaborated) → IsAsDeclared s d a → HasNew s.signature a.signature (declared_name d)
 entry-new s (surf.Def x ty body) a is =
     let S = s.signature in
@@ -143,7 +186,14 @@ entry-new s (surf.Decide x family into) a is =
     shorter-new s.signature is.before a.signature x.text is.longer
     (subst (λ T. HasNew is.before T x.text) (sym (plain-signature x.text (pushed is.before e) a is.accepted))
     (pushed-new is.before x.text e (named_definition type is.body)))
-entry-new s (surf.Mutual params members whole tag tags) a is = absurd is.written
+entry-new s (surf.Mutual params members whole tag tags) a is =
+    let S = s.signature in
+    let x = (first_name members whole).text in
+    let first : first_of is.given.members is.given.family ≡ x =
+    if_ok (λ raw. first_of raw.members raw.family ≡ x) (mutual_family S params members whole tag tags) is.given is.resolved (first-named S params members whole tag tags) in
+    let packed = if_ok (IsPackedAt S is.given) (pack (length S.entries) is.given) is.packed is.is
+    (split-parts (IsPackedAt S is.given) IsForeseenPacking (pack (length S.entries) is.given) (packs S is.given)).0 in
+    stays-new S is.before a.signature x is.longer (subst (HasNew S is.before) first (packed-new S is.given is.packed is.before packed is.entered is.given.members refl))
 
 -- ---- the declarations before it
 

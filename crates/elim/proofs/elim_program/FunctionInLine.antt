@@ -42,7 +42,7 @@ use Rattle.elim.proofs.elim_program.FunctionTexts.{RefusalIn, ClauseIn, CallIn, 
 use Rattle.elim.proofs.program_texts.QuietWalks.{Any}
 use Rattle.elim.proofs.program_texts.ReportsInLine.{ReportedIn, part-in, helper-in, ordered-made, report-in}
 use Rattle.elim.proofs.program_texts.SessionInLine.{NamesIn, each-last, term-in}
-use Rattle.elim.proofs.program_texts.TokensInLine.{Each}
+use Rattle.surface_syntax.specs.word_laws.Words.{Each}
 
 -- the answer has P, or the refusal is written in line
 abbrev pub WritesIn : {A : Type 0} → (A → Type 0) → Elaborating A → Type 0

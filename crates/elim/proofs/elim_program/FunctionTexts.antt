@@ -22,6 +22,7 @@ use Rattle.clause_reports.specs.Stops as report
 use Rattle.clause_reports.specs.Stops.{ReportStop}
 use Rattle.core_text.specs.ContextText.{context_text}
 use Rattle.clause_reports.specs.elaboration.Functions.{ClauseLine}
+use Rattle.clause_reports.specs.elaboration.Refusals as refusal
 use Rattle.clause_reports.specs.elaboration.Refusals.{Owner, Part, FailingCall, Refusal, Halts, Stuck, DotMismatch, SelfInType, NotSmaller, or_ill_typed, level_too_high, pattern_text, of_tree, or_ends, of_report, or_no_report, or_halts, owner_of}
 use Rattle.function_session.specs.Refusals.{failing_call, part_name, refused_function}
 use Rattle.elim.specs.program_texts.ClauseTexts.{vector_text, line_text, clause_line, leaf_line, leaf_lines, with_leaves, clause_lines}
@@ -29,7 +30,7 @@ use Rattle.elim.specs.program_texts.Refusals.{clause_text, denial_text, failing_
 use Rattle.elim.proofs.program_texts.EnteredNames.{IsIn, ReportIn}
 use Rattle.elim.proofs.program_texts.QuietWalks.{Any}
 use Rattle.elim.proofs.program_texts.SessionInLine.{TextIn, context-in, denial-in, ill-typed-in, NamesIn, has-names, stopped-in, term-in}
-use Rattle.elim.proofs.program_texts.TokensInLine.{Each}
+use Rattle.surface_syntax.specs.word_laws.Words.{Each}
 
 -- ---- parts of lines
 
@@ -53,7 +54,7 @@ why-in OccursNotRigid = refl
 why-in Depends = refl
 why-in NeedsIndexEquations = refl
 
-sides-in : (context left right : List ℕ) → IsIn context → IsIn left → IsIn right → IsIn (sides_text context left right)
+pub sides-in : (context left right : List ℕ) → IsIn context → IsIn left → IsIn right → IsIn (sides_text context left right)
 sides-in context left right h k l = both (context ++ codes " " ++ left ++ codes " = ") right (both (context ++ codes " " ++ left) (codes " = ") (apart context left h k) refl) l
 
 pub spaced-in : (S : Signature) → NamesIn S → (terms : List Term) → IsIn (spaced S terms)
@@ -66,6 +67,19 @@ spaced-in S names (t ∷ terms) =
 -- as a refusal of the declaration, whose units only a stop shows
 abbrev pub RefusalIn : Refusal → Type 0
 RefusalIn e = TextIn (refused_function 0 e)
+
+pub refusal-written : (fuel : ℕ) (e : Refusal) → RefusalIn e → TextIn (refused_function fuel e)
+refusal-written fuel (refusal.Halts e) h = stopped-in fuel e
+refusal-written fuel (refusal.IllTyped part place context reason) h = h
+refusal-written fuel (refusal.WrongConstructor owner context type) h = h
+refusal-written fuel (refusal.Stuck owner context left right why) h = h
+refusal-written fuel (refusal.Uncovered name context vector) h = h
+refusal-written fuel (refusal.NotAbsurd owner constructor) h = h
+refusal-written fuel (refusal.Impossible owner context left right) h = h
+refusal-written fuel (refusal.DotMismatch owner context written forced) h = h
+refusal-written fuel (refusal.SelfInType owner) h = h
+refusal-written fuel (refusal.NotSmaller rows) h = h
+refusal-written fuel (refusal.Rejected r) h = h
 
 pub halts-in : (e : Stop) → RefusalIn (Halts e)
 halts-in e = stopped-in 0 e

@@ -16,8 +16,7 @@ use Rattle.surface_syntax.specs.Parses.{parsed}
 use Rattle.elim.specs.declared.program_texts.words.Work.{Work}
 use Rattle.elim.specs.elim_program.DefinedOutputs.{refused_words, compiles, verifies, works, HasOneOutput}
 use Rattle.elim.specs.elim_program.Outputs.{compiled, text_block}
-use Rattle.elim.specs.program_texts.Texts.{Answer, Gives, too_long, not_utf8, bad_token, tokens, limited, read, unless_unbuilt}
-use Rattle.elim.specs.program_texts.Unbuilt.{unbuilt}
+use Rattle.elim.specs.program_texts.Texts.{Answer, Gives, too_long, not_utf8, bad_token, tokens, limited, read}
 use Rattle.elim.specs.elim_program.Verifies.{file_block}
 use Rattle.elim.specs.program_texts.Words.{asked, count_of, default_fuel, flags, fuel_of, is_fuel, verify_asked, work_asked, work_of}
 use Rattle.elim.specs.elim_program.WorkTexts.{work_text}
@@ -97,7 +96,7 @@ one_answer bytes x y (bad_token o h b) (tokens ts k t) = absurd (bad-or-tokens b
 one_answer bytes x y (tokens ts h t) (too_long k) = absurd (omega (arith, h, k))
 one_answer bytes x y (tokens ts h t) (not_utf8 o k v) = absurd (not-both bytes o v t.utf8)
 one_answer bytes x y (tokens ts h t) (bad_token o k b) = absurd (bad-or-tokens bytes o ts b t)
-one_answer bytes x y (tokens ts h t) (tokens us k u) = ap (λ ts. unless_unbuilt (unbuilt bytes ts) (read (parsed bytes ts))) (same t.whole refl u.whole refl).tokens
+one_answer bytes x y (tokens ts h t) (tokens us k u) = ap (λ ts. read (parsed bytes ts)) (same t.whole refl u.whole refl).tokens
 
 fuel-or : Command → Option Command → Command
 fuel-or c (Some d) = d

@@ -1,5 +1,5 @@
 -- No line of an output holds a line feed.
-use Rattle.std.proofs.Common.{◌≡◌, ℕ, zero, suc, ◌+◌, ◌-◌, Bool, true, false, List, [], ◌∷◌, ◌++◌, length, codes, Option, Some, None, Result, Ok, Err, IfOk, refl, sym, ap, ◌∙◌, append_assoc, append-nil}
+use Rattle.std.proofs.Common.{◌≡◌, ℕ, zero, suc, ◌+◌, ◌-◌, Bool, true, false, List, [], ◌∷◌, ◌++◌, length, map, codes, Result, Ok, Err, IfOk, refl, sym, ap, ◌∙◌, append_assoc, append-nil}
 use Rattle.std.specs.Prelude.{decimal, slice_get}
 use Rattle.theory.specs.Prelude.{prelude}
 use Rattle.theory.specs.Signatures.{Entry, Signature, names_of}
@@ -17,6 +17,7 @@ use Rattle.function_session.specs.Declaring.{declared_in, new_session, session_a
 use Rattle.function_session.specs.Elaborating.{Elaborated}
 use Rattle.function_session.specs.Laws.{KeepsReady}
 use Rattle.function_session.specs.Sessions.{Session}
+use Rattle.function_session.specs.mutual_families.EquationLines.{MutualLine}
 use Rattle.function_session.proofs.HeldDecisions.{declare-ready}
 use Rattle.surface_syntax.specs.Lexemes.{lexemes_of}
 use Rattle.surface_syntax.specs.Parses.{by_offset, offset_of}
@@ -28,11 +29,10 @@ use Rattle.elim.specs.elim_program.Acceptance.{Acceptance, SaysAccepted}
 use Rattle.elim.specs.elim_program.Headline.{IsHeadline, Headline}
 use Rattle.elim.specs.program_texts.Lines.{lines_of, text_of}
 use Rattle.elim.specs.elim_program.DefinedOutputs.{IsOutput, refused_words, compiles, verifies, works}
-use Rattle.elim.specs.elim_program.Outputs.{Output, line_of, entry_lines, accepted_line, accepted_lines, lines_after, declared_name, declared_block, followed, declarations, text_block, head_lines}
+use Rattle.elim.specs.elim_program.Outputs.{Output, line_of, entry_lines, accepted_line, accepted_lines, lines_after, mutual_line, note_lines, declared_name, declared_block, followed, declarations, text_block, head_lines}
 use Rattle.elim.specs.elim_program.Runs.{IsFront}
 use Rattle.elim.specs.program_texts.Texts as texts
-use Rattle.elim.specs.program_texts.Texts.{Gives, too_long, not_utf8, bad_token, tokens, limited, read, unless_unbuilt}
-use Rattle.elim.specs.program_texts.Unbuilt.{unbuilt}
+use Rattle.elim.specs.program_texts.Texts.{Gives, too_long, not_utf8, bad_token, tokens, limited, read}
 use Rattle.elim.specs.elim_program.Verifies.{file_block, verified_line}
 use Rattle.elim.specs.elim_program.VerifyHeadline.{IsVerifyHeadline, SaysVerified, VerifiedIsReady, VerifyHeadline}
 use Rattle.elim.specs.elim_program.WorkTexts.{summary_line, work_text}
@@ -41,11 +41,13 @@ use Rattle.elim.proofs.elim_program.Accepted.{accepted}
 use Rattle.elim.proofs.elim_program.Shown.{shown}
 use Rattle.elim.proofs.elim_program.ElaboratedInLine.{ElaboratedIn, WrittenIn, elaborated-in}
 use Rattle.elim.proofs.elim_program.FunctionTexts.{clauses-in}
+use Rattle.elim.proofs.elim_program.MutualInLine.{EquationIn}
 use Rattle.elim.proofs.program_texts.GrammarInLine.{DeclInLine, file-in, lexemes-good}
 use Rattle.elim.proofs.program_texts.RefusalsInLine.{join, refused-lines-in, stop-in}
 use Rattle.elim.proofs.program_texts.SessionInLine.{NamesIn, has-names, prelude-in}
 use Rattle.elim.proofs.elim_program.TextLines.{lines-text, lines-front}
-use Rattle.elim.proofs.program_texts.TokensInLine.{Each, tokens-in}
+use Rattle.surface_syntax.specs.word_laws.Words.{Each}
+use Rattle.elim.proofs.program_texts.TokensInLine.{tokens-in}
 use Rattle.elim.proofs.elim_program.FileLines.{file-lines-in}
 use Rattle.elim.proofs.elim_program.Verified.{verified}
 
@@ -62,14 +64,25 @@ name-in : (d : surf.Decl) → DeclInLine d → is_in_line (declared_name d) ≡ 
 name-in (surf.Def x ty body) h = h.0
 name-in (surf.Decide x f e) h = h.0
 name-in (surf.Data x params ty cons) h = h.0
-name-in (surf.Mutual params members f tag tags) h = h
+name-in (surf.Mutual params [] f tag tags) h = h.2
+name-in (surf.Mutual params (m ∷ members) f tag tags) h = h.1.0.0
 name-in (surf.Fun x ty clauses) h = h.0
+
+equation-in : (e : MutualLine) → EquationIn e → is_in_line (mutual_line e) ≡ true
+equation-in e h =
+    let first = both (codes "# mutual " ++ e.0) (codes " ") (both (codes "# mutual ") e.0 refl h.0) refl in
+    both (codes "# mutual " ++ e.0 ++ codes " " ++ e.1) (codes " definitional") (both (codes "# mutual " ++ e.0 ++ codes " ") e.1 first h.1) refl
+
+equations-in : (equations : List MutualLine) → Each EquationIn equations → AreInLine (map mutual_line equations)
+equations-in [] h = tt
+equations-in (e ∷ equations) h = (equation-in e h.0, equations-in equations h.1)
 
 accepted-lines-in : (S : Signature) (a : Elaborated) → ElaboratedIn a → AreInLine (accepted_lines S a)
 accepted-lines-in S a h =
-    join (lines_after S a.signature) (clause_lines a.signature a.lines ++ accepted_line a.name ∷ [])
+    join (lines_after S a.signature) (note_lines a.signature a.lines a.equations ++ accepted_line a.name ∷ [])
     (entries-in a.signature h.names (length S.entries) (length a.signature.entries - length S.entries))
-    (join (clause_lines a.signature a.lines) (accepted_line a.name ∷ []) (clauses-in a.signature h.names a.lines h.clauses)
+    (join (note_lines a.signature a.lines a.equations) (accepted_line a.name ∷ [])
+    (join (clause_lines a.signature a.lines) (map mutual_line a.equations) (clauses-in a.signature h.names a.lines h.clauses) (equations-in a.equations h.equations))
     (both (codes "# accepted ") a.name refl h.name, tt))
 
 declarations-in : (s : Session) (ds : List surf.Decl) → IsReady s.signature → NamesIn s.signature → Each DeclInLine ds → AreInLine (declarations s ds).lines
@@ -94,13 +107,12 @@ given-in : (bytes : List ℕ) (answer : texts.Answer) → Gives bytes answer →
 given-in bytes answer (too_long h) = tt
 given-in bytes answer (not_utf8 offset h k) = tt
 given-in bytes answer (bad_token offset h k) = tt
-given-in bytes answer (tokens found within are) = go (unbuilt bytes found) refl (run limit Start (lexemes_of bytes found)) refl
+given-in bytes answer (tokens found within are) = go (run limit Start (lexemes_of bytes found)) refl
   where
-    go : (o : Option ℕ) → unbuilt bytes found ≡ o → (r : Answer) → run limit Start (lexemes_of bytes found) ≡ r → AnswerIn (unless_unbuilt o (read (by_offset (offset_of bytes found) r)))
-    go (Some offset) e r q = tt
-    go None e (Read ds) q = file-in limit (run_file limit (lexemes_of bytes found) ds q) (lexemes-good bytes found (tokens-in bytes found are))
-    go None e (Wrong n) q = tt
-    go None e (Deep n) q = tt
+    go : (r : Answer) → run limit Start (lexemes_of bytes found) ≡ r → AnswerIn (read (by_offset (offset_of bytes found) r))
+    go (Read ds) q = file-in limit (run_file limit (lexemes_of bytes found) ds q) (lexemes-good bytes found (tokens-in bytes found are))
+    go (Wrong n) q = tt
+    go (Deep n) q = tt
 
 -- the lines of a source file that is read
 pub written-in : (bytes : List ℕ) (fuel : ℕ) (k : Bool) (ds : List surf.Decl) → Gives bytes (Ok ds) → AreInLine (declarations (new_session k fuel) ds).lines

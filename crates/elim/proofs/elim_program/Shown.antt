@@ -10,6 +10,7 @@ use Rattle.theory.specs.WellFormed.{pushed}
 use Rattle.decide_eq.proofs.PlainShapes.{decision-there}
 use Rattle.surface_syntax.specs.Trees as surf
 use Rattle.surface_syntax.specs.declared.tree.Word.{Word}
+use Rattle.resolve.specs.DeclaredNames.{first_name}
 use Rattle.elab_session.specs.Sessions.{IsReady}
 use Rattle.function_session.specs.Declaring.{declared_in}
 use Rattle.function_session.specs.Elaborating.{Elaborated}
@@ -17,14 +18,16 @@ use Rattle.function_session.specs.Laws.{IsAsDeclared}
 use Rattle.function_session.specs.Sessions.{Session}
 use Rattle.function_session.specs.decisions.Known.{known_into}
 use Rattle.function_session.specs.decisions.Laws.{IsWrittenDecision, type_of_decision}
+use Rattle.function_session.specs.mutual_families.Laws.{IsWrittenMutual}
 use Rattle.elim.specs.declared.program_texts.words.Command.{Command}
 use Rattle.elim.specs.elim_program.Acceptance.{AcceptedIsShown}
 use Rattle.elim.specs.elim_program.Outputs.{head_lines}
 use Rattle.elim.specs.program_texts.Words.{asked, command, flags, fuel_of, is_fuel, is_k, with_fuel}
-use Rattle.elim.specs.elim_program.Written.{IsDecisionWritten, IsWritten}
+use Rattle.elim.specs.elim_program.Written.{IsDecisionWritten, IsMutualWritten, IsWritten}
 use Rattle.elim.proofs.elim_program.DecisionNames.{are-named, entry-found}
 use Rattle.elim.proofs.elim_program.FirstNames.{first-of_name, plain-name, plain-signature}
 use Rattle.elim.proofs.elim_program.Lines.{if_ok}
+use Rattle.elim.proofs.elim_program.NoEquations.{no-equations}
 use Rattle.elim.proofs.elim_program.Reading.{is-read}
 use Rattle.elim.specs.written_functions.PlannedFunctions.{IsByPlannedClauses}
 use Rattle.elim.proofs.written_functions.Functions.{by-clauses}
@@ -111,15 +114,36 @@ decision-written s x family into a is =
       added = plain-signature x.text (pushed is.before (Definition x.text type is.body)) a is.accepted;
     }
 
+-- ---- families that refer to each other
+
+pub mutual-written : (s : Session) (params : List surf.Typed) (members : List surf.Member) (family tag : Word) (tags : List Word) (a : Elaborated)
+    → IsWrittenMutual s.signature (surf.Mutual params members family tag tags) a
+    → IsMutualWritten s.signature (surf.Mutual params members family tag tags) a.signature a.equations
+mutual-written s params members family tag tags a is = record {
+  raw = is.given;
+  resolved = is.resolved;
+  packed = is.packed;
+  is = is.is;
+  before = is.before;
+  entered = is.entered;
+  drafts = is.drafts;
+  drafted = is.drafted;
+  inductions = is.inductions;
+  longer = is.longer;
+  shown = is.shown;
+  equal = is.equations;
+}
+
 -- ---- each form of declaration
 
 written-as : (s : Session) (d : surf.Decl) (a : Elaborated) (name : List ℕ) → IsReady s.signature → declared_in s d ≡ Ok a → IsAsDeclared s d a
-    → a.name ≡ name → IsWritten s.signature d name a.signature a.lines
+    → a.name ≡ name → IsWritten s.signature d name a.signature a.lines a.equations
 written-as s (surf.Def x ty body) a name ready same is named =
     let w = is.written in
     let T = pushed s.signature (Definition x.text w.type w.term) in (
       plain-name x.text T a name w.accepted named,
       is.lines,
+      no-equations s (surf.Def x ty body) a tt same,
       record {
         type = w.type;
         term = w.term;
@@ -134,6 +158,7 @@ written-as s (surf.Data x params ty cons) a name ready same is named =
     let T = pushed s.signature (FamilyOf w.entry) in (
       plain-name x.text T a name w.accepted named,
       is.lines,
+      no-equations s (surf.Data x params ty cons) a tt same,
       record {
         raw = w.raw;
         entry = w.entry;
@@ -145,6 +170,7 @@ written-as s (surf.Data x params ty cons) a name ready same is named =
     )
 written-as s (surf.Fun x ty clauses) a name ready same is named = (
   plain-name x.text a.signature a name is.accepted named,
+  no-equations s (surf.Fun x ty clauses) a tt same,
   (if_ok (IsByPlannedClauses s.signature s.fuel x ty clauses) (declared_in s (surf.Fun x ty clauses)) a same
       (by-clauses s.signature s.fuel x ty clauses ready)).by_clauses,
 )
@@ -152,16 +178,21 @@ written-as s (surf.Decide x family into) a name ready same is named =
     let type = type_of_decision is.given.family is.decided is.given.into in (
       plain-name x.text (pushed is.before (Definition x.text type is.body)) a name is.accepted named,
       is.lines,
+      no-equations s (surf.Decide x family into) a tt same,
       decision-written s x family into a is,
     )
-written-as s (surf.Mutual params members family tag tags) a name ready same is named = absurd is.written
+written-as s (surf.Mutual params members family tag tags) a name ready same is named = (
+  plain-name (first_name members family).text a.signature a name is.accepted named,
+  is.lines,
+  mutual-written s params members family tag tags a is,
+)
 
 pub shown : AcceptedIsShown
 shown words bytes above name a = record {
   k = a.command.k;
   asked_for = asks-k words a.command a.asked_for;
   decls = a.decls;
-  text = (is-read bytes a.decls a.text).0;
+  text = is-read bytes a.decls a.text;
   front = a.front;
   declaration = a.declaration;
   back = a.back;
@@ -170,6 +201,7 @@ shown words bytes above name a = record {
   before = a.session.signature;
   after = a.accepted.signature;
   clauses = a.accepted.lines;
+  equations = a.accepted.equations;
   written = written-as a.session a.declaration a.accepted name a.ready a.elaborated a.written a.named;
   longer = a.longer;
   formed = a.whole.well_formed;

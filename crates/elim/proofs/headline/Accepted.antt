@@ -4,6 +4,7 @@ use Rattle.std.specs.Prelude.{Contains, IsTrue, is_some, slice_get}
 use Rattle.theory.specs.Signatures.{Definition, FamilyOf}
 use Rattle.theory.specs.WellFormed.{pushed}
 use Rattle.surface_syntax.specs.Trees as surf
+use Rattle.resolve.specs.DeclaredNames.{first_name}
 use Rattle.elab_session.specs.Sessions.{IsReady}
 use Rattle.function_session.specs.Declaring.{declared_in}
 use Rattle.function_session.specs.Elaborating.{Elaborated}
@@ -21,7 +22,8 @@ use Rattle.elim.specs.elim_program.Outputs.{head_lines}
 use Rattle.elim.specs.elim_program.Written.{IsWritten}
 use Rattle.elim.proofs.elim_program.FirstNames.{first-of_name, plain-name, plain-signature}
 use Rattle.elim.proofs.elim_program.Lines.{if_ok}
-use Rattle.elim.proofs.elim_program.Shown.{decision-written}
+use Rattle.elim.proofs.elim_program.NoEquations.{no-equations}
+use Rattle.elim.proofs.elim_program.Shown.{decision-written, mutual-written}
 use Rattle.elim.specs.headline.program_laws.Laws.{GivesByTheGrammar}
 use Rattle.elim.specs.headline.FullHeadline.{AcceptedIsTheShown, IsOfTheSame}
 use Rattle.elim.specs.headline.SamePlans.{HasSamePlan}
@@ -44,12 +46,13 @@ same-k j k above xs ys e f = sym (says-its-k j xs) ∙ ap says-k (sym e ∙ f) �
 -- ---- the declaration
 
 written : FunctionsAreByClauses → (s : Session) (d : surf.Decl) (a : Elaborated) (name : List ℕ) → IsReady s.signature → declared_in s d ≡ Ok a
-    → IsAsDeclared s d a → a.name ≡ name → IsWritten s.signature d name a.signature a.lines
+    → IsAsDeclared s d a → a.name ≡ name → IsWritten s.signature d name a.signature a.lines a.equations
 written by_clauses s (surf.Def x ty body) a name ready is own named =
     let w = own.written in
     let T = pushed s.signature (Definition x.text w.type w.term) in (
       plain-name x.text T a name w.accepted named,
       own.lines,
+      no-equations s (surf.Def x ty body) a tt is,
       record {
         type = w.type;
         term = w.term;
@@ -64,6 +67,7 @@ written by_clauses s (surf.Data x params ty cons) a name ready is own named =
     let T = pushed s.signature (FamilyOf w.entry) in (
       plain-name x.text T a name w.accepted named,
       own.lines,
+      no-equations s (surf.Data x params ty cons) a tt is,
       record {
         raw = w.raw;
         entry = w.entry;
@@ -75,6 +79,7 @@ written by_clauses s (surf.Data x params ty cons) a name ready is own named =
     )
 written by_clauses s (surf.Fun x ty clauses) a name ready is own named = (
   plain-name x.text a.signature a name own.accepted named,
+  no-equations s (surf.Fun x ty clauses) a tt is,
   (if_ok (IsByPlannedClauses s.signature s.fuel x ty clauses) (declared_in s (surf.Fun x ty clauses)) a is
       (by_clauses s.signature s.fuel x ty clauses ready)).by_clauses,
 )
@@ -82,14 +87,19 @@ written by_clauses s (surf.Decide x family into) a name ready is own named =
     let type = type_of_decision own.given.family own.decided own.given.into in (
       plain-name x.text (pushed own.before (Definition x.text type own.body)) a name own.accepted named,
       own.lines,
+      no-equations s (surf.Decide x family into) a tt is,
       decision-written s x family into a own,
     )
-written by_clauses s (surf.Mutual params members family tag tags) a name ready is own named = absurd own.written
+written by_clauses s (surf.Mutual params members family tag tags) a name ready is own named = (
+  plain-name (first_name members family).text a.signature a name own.accepted named,
+  own.lines,
+  mutual-written s params members family tag tags a own,
+)
 
 -- the function has the plan with which it is accepted
 same-plan : (by_clauses : FunctionsAreByClauses) (s : Session) (d : surf.Decl) (a : Elaborated) (name : List ℕ) (ready : IsReady s.signature)
     (is : declared_in s d ≡ Ok a) (own : IsAsDeclared s d a) (named : a.name ≡ name)
-    → HasSamePlan s.signature name a.signature a.lines d (written by_clauses s d a name ready is own named) s a d own
+    → HasSamePlan s.signature name a.signature a.lines a.equations d (written by_clauses s d a name ready is own named) s a d own
 unfolding written
 same-plan by_clauses s (surf.Def x ty body) a name ready is own named = tt
 same-plan by_clauses s (surf.Data x params ty cons) a name ready is own named = tt
@@ -101,7 +111,7 @@ same-plan by_clauses s (surf.Fun x ty clauses) a name ready is own named =
     let plan : b.plan ≡ own.plan = ok-is (sym b.planned ∙ ap (λ (f : Function). (planned_of S f s.fuel).0) given ∙ own.planned) in
     subst (λ p. IsOfPlan a.signature p b.by_clauses.at) plan b.of_plan
 same-plan by_clauses s (surf.Decide x family into) a name ready is own named = tt
-same-plan by_clauses s (surf.Mutual params members family tag tags) a name ready is own named = absurd own.written
+same-plan by_clauses s (surf.Mutual params members family tag tags) a name ready is own named = tt
 
 -- ---- the headline
 
@@ -117,7 +127,7 @@ module _ (is_shown : AcceptedIsShown) (grammar : GivesByTheGrammar) (by_clauses 
     k = a.command.k;
     asked_for = asks-k;
     decls = a.decls;
-    text = (grammar bytes a.decls a.text).0;
+    text = grammar bytes a.decls a.text;
     front = a.front;
     declaration = a.declaration;
     back = a.back;
@@ -126,6 +136,7 @@ module _ (is_shown : AcceptedIsShown) (grammar : GivesByTheGrammar) (by_clauses 
     before = a.session.signature;
     after = a.accepted.signature;
     clauses = a.accepted.lines;
+    equations = a.accepted.equations;
     written = written by_clauses a.session a.declaration a.accepted name a.ready a.elaborated a.written a.named;
     longer = a.longer;
     formed = a.whole.well_formed;
@@ -144,6 +155,7 @@ module _ (is_shown : AcceptedIsShown) (grammar : GivesByTheGrammar) (by_clauses 
     before = refl;
     after = refl;
     clauses = refl;
+    equations = refl;
     plan = same-plan by_clauses a.session a.declaration a.accepted name a.ready a.elaborated a.written a.named;
   }
 

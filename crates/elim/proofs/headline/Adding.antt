@@ -1,7 +1,9 @@
 -- Entries that are added one by one, each of a kind over those before it: what a draft brings along, and the draft.
 use Rattle.std.proofs.Common.{◌≡◌, ◌≤◌, inl, inr, ℕ, zero, suc, Bool, true, false, cond, nat_lt, ◌&&◌, position, Option, Some, None, List, [], ◌∷◌, length, Result, Ok, Err, IfOk, refl, sym, ap, ◌∙◌, subst as transport, arith}
 use Rattle.std.proofs.lemmas.List.{take-append-le, take_all}
+use Rattle.std.proofs.lemmas.List.Elements.{Contains-append_right}
 use Rattle.std.proofs.lemmas.Option.{slice_get_within}
+use Rattle.std.specs.Prelude.{Contains}
 use Rattle.theory.specs.Terms.{Term, top}
 use Rattle.theory.specs.Eliminators.{eliminator_type}
 use Rattle.theory.specs.Families.{Family}
@@ -23,6 +25,9 @@ use Rattle.family_check.proofs.Outcomes.{if_new-has}
 use Rattle.tree_translation.specs.Needed.{is_found}
 use Rattle.clause_reports.specs.DraftEntering.{AssumesK, Eliminates, Entering, Mention, Names, enter_all, enter_axiom_k, enter_chain, enter_draft_of, enter_eliminator, enter_entry, enter_generated, enter_mention, enter_needed, enter_with, longest_chain, mentioned, with_entry}
 use Rattle.clause_reports.specs.Generated.{Generated, generated_by, generated_draft}
+use Rattle.clause_reports.specs.elaboration.Refusals.{owner_of, reporting}
+use Rattle.clause_reports.proofs.elaboration.Keeping.{no_report-has}
+use Rattle.function_session.specs.function_lines.Opened.{checked_entered}
 use Rattle.clause_reports.specs.Stops.{Halts, Reporting, answers, entering, or_halts}
 use Rattle.clause_reports.proofs.Keeping.{Any, any, rejected-has, weaker}
 use Rattle.drafts.specs.draft_entering.Conditions.{Extends, IsNoFamily}
@@ -69,6 +74,18 @@ added-kind {K} S _ (one_more T x h plain kind) n e low at =
           transport (λ m. K (first_entries (pushed T x) m) e) (sym place)
           (transport (λ B. K B e) (sym (first-pushed T x (length T.entries) (omega arith) ∙ first-whole T)) (transport (K T) same kind))
     ]
+
+-- ---- elements
+
+pub at-first : {A : Type 0} (xs : List A) (x y : A) → y ≡ x → Contains (y ∷ xs) x
+at-first xs x y e = (0, omega arith, e)
+
+pub behind : {A : Type 0} (xs : List A) (x y : A) → Contains xs x → Contains (y ∷ xs) x
+behind xs x y h = Contains-append_right (y ∷ []) xs x h
+
+-- drafts are of the kind over each signature
+abbrev pub AreOfKind : (Signature → Entry → Type 0) → List Draft → Type 0
+AreOfKind K drafts = (d : Draft) → Contains drafts d → (U : Signature) → K U (drafted_entry U d)
 
 -- ---- entries
 
@@ -202,3 +219,10 @@ module _ (K : Signature → Entry → Type 0) (allows : Allows K) where
 
   pub draft-adds : (S : Signature) (d : Draft) (left : ℕ) → IsOfKind S d → Answers (AddsTo K S) (enter_draft_of S d left)
   draft-adds S d left kind = enter_with-adds enter_needed enter_needed-adds S d left kind
+
+  -- one draft, as it is meant to enter
+  pub checked-adds : (S : Signature) (name : List ℕ) (d : Draft) (left : ℕ) → ((U : Signature) → K U (drafted_entry U d))
+      → Answers (Adds K S) (checked_entered S name d left)
+  checked-adds S name d left kind =
+      and_next-has (AddsTo K S) (Adds K S) (reporting S (owner_of name 0) (enter_draft_of S d left)) _
+      (no_report-has (AddsTo K S) S (owner_of name 0) (enter_draft_of S d left).0 (draft-adds S d left (λ U longer. kind U))) (λ e rest g. g)

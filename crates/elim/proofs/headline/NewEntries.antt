@@ -1,8 +1,7 @@
 -- Each entry that an accepted function adds is a draft of its plan, a generated entry, the proof of a clause, or an instance; so is each that a decision of
--- equality adds, without clauses.
-use Rattle.std.proofs.Common.{◌≡◌, ◌≤◌, ℕ, ◌+◌, Option, Some, None, List, [], ◌∷◌, length, map, Result, Ok, Err, IfOk, refl, sym, ap, ◌∙◌, subst as transport, arith}
+-- equality adds, without clauses, and each that families that refer to each other add behind what is packed.
+use Rattle.std.proofs.Common.{◌≡◌, ◌≤◌, ℕ, ◌+◌, Option, Some, None, List, [], ◌∷◌, length, map, Result, Ok, Err, IfOk, refl, sym, ap, ◌∙◌, subst as transport}
 use Rattle.std.specs.Prelude.{Contains}
-use Rattle.std.proofs.lemmas.List.Elements.{Contains-append_right}
 use Rattle.theory.specs.Terms.{Term}
 use Rattle.theory.specs.Families.{Family}
 use Rattle.theory.specs.Signatures.{Definition, Entry, FamilyOf, IsEntryAt, Signature}
@@ -42,17 +41,10 @@ use Rattle.elim.proofs.written_functions.Walked.{is-ok}
 use Rattle.function_session.proofs.equation_laws.LeftShowing.{ok-is}
 use Rattle.elim.proofs.elim_program.DecisionNames.{Named}
 use Rattle.elim.proofs.elim_program.Lines.{if_ok}
-use Rattle.elim.specs.headline.NewEntries.{AreNewEntries, IsNewEntry, axiom_k, drafted, drafted_entry, eliminator, generated, proof}
-use Rattle.elim.proofs.headline.Adding.{Adds, AddsTo, Allows, added-kind, adds-on, draft-adds, mention-adds, nothing}
+use Rattle.elim.specs.headline.NewEntries.{AreNewEntries, IsNewEntry, axiom_k, drafted, eliminator, generated, proof}
+use Rattle.elim.proofs.headline.Adding.{Adds, AddsTo, Allows, AreOfKind, added-kind, adds-on, at-first, behind, checked-adds, draft-adds, mention-adds, nothing}
 use Rattle.elim.proofs.headline.AddingReports.{AddsBy, report-adds}
-
--- ---- elements
-
-at-first : {A : Type 0} (xs : List A) (x y : A) → y ≡ x → Contains (y ∷ xs) x
-at-first xs x y e = (0, omega arith, e)
-
-behind : {A : Type 0} (xs : List A) (x y : A) → Contains xs x → Contains (y ∷ xs) x
-behind xs x y h = Contains-append_right (y ∷ []) xs x h
+use Rattle.elim.proofs.headline.NewMutualEntries.{HasNewMutual, mutual-entries}
 
 -- ---- the entries of a function
 
@@ -64,10 +56,6 @@ AreProofs K lines = (U : Signature) (name : List ℕ) (type body : Term) → Con
 abbrev AddsWith : (Signature → Entry → Type 0) → Signature → Lines → Type 0
 AddsWith K S l = AreProofs K (map (λ c. c.line) l.lines) → Adds K S l.signature
 
--- drafts are of the kind over each signature
-abbrev AreOfKind : (Signature → Entry → Type 0) → List Draft → Type 0
-AreOfKind K drafts = (d : Draft) → Contains drafts d → (U : Signature) → K U (drafted_entry U d)
-
 module _ (K : Signature → Entry → Type 0) (allows : Allows K) where
   enter_drafts-adds : (S : Signature) (name : List ℕ) (drafts : List Draft) (left : ℕ) → AreOfKind K drafts
       → Answers (Adds K S) (enter_drafts S name drafts left)
@@ -78,13 +66,6 @@ module _ (K : Signature → Entry → Type 0) (allows : Allows K) where
       (draft-adds K allows S d left (λ U longer. kinds d (at-first drafts d d refl) U))) (λ e rest g.
       weaker (Adds K e.signature) (Adds K S) (enter_drafts e.signature name drafts rest).0 (λ U k. adds-on g k)
       (enter_drafts-adds e.signature name drafts rest (λ x has U. kinds x (behind drafts x d has) U)))
-
-  -- one draft, as it is meant to enter
-  checked-adds : (S : Signature) (name : List ℕ) (d : Draft) (left : ℕ) → ((U : Signature) → K U (drafted_entry U d))
-      → Answers (Adds K S) (checked_entered S name d left)
-  checked-adds S name d left kind =
-      and_next-has (AddsTo K S) (Adds K S) (reporting S (owner_of name 0) (enter_draft_of S d left)) _
-      (no_report-has (AddsTo K S) S (owner_of name 0) (enter_draft_of S d left).0 (draft-adds K allows S d left (λ U longer. kind U))) (λ e rest g. g)
 
   enter_values-adds : (S : Signature) (plan : Plan) (r : Option Recursion) (parts : List Part) (left : ℕ)
       → Answers (Adds K S) (enter_values S plan r parts left)
@@ -212,4 +193,6 @@ new-entries s (surf.Decide x family into) a is w =
     (decision-has (HasNewDecision s x family into) s.signature s.decisions s.fuel x family into (decision-entries s x family into)) w
 new-entries s (surf.Def x ty body) a is w = tt
 new-entries s (surf.Data x params ty cons) a is w = tt
-new-entries s (surf.Mutual params members family tag tags) a is w = tt
+new-entries s (surf.Mutual params members family tag tags) a is w =
+    if_ok (HasNewMutual s (surf.Mutual params members family tag tags)) (declared_in s (surf.Mutual params members family tag tags)) a is
+    (mutual-entries s params members family tag tags) w

@@ -3,12 +3,17 @@ use Rattle.std.proofs.Common.{◌≡◌, ℕ, ◌+◌, false, Option, Some, None
 use Rattle.theory.specs.Signatures.{Signature}
 use Rattle.theory.specs.WellFormed.{IsWellFormed}
 use Rattle.core_terms.specs.CaseTrees.{Walk}
+use Rattle.core_terms.proofs.Answers.{and_then-is}
 use Rattle.core_sig.specs.Drafts.{Draft}
+use Rattle.core_sig.specs.Raw.{MutualRaw}
 use Rattle.kernel_check.specs.Checking.{infer_sort_of}
 use Rattle.kernel_reduce.specs.Reduction.{nesting}
 use Rattle.family_check.specs.Scopes.{HasPrelude}
 use Rattle.surface_syntax.specs.Trees as surf
+use Rattle.surface_syntax.specs.declared.tree.Word.{Word}
+use Rattle.resolve.specs.DeclaredNames.{declared_word}
 use Rattle.resolve.specs.Functions.{Function}
+use Rattle.resolve.specs.Mutual.{resolve_mutual}
 use Rattle.tree_translation.specs.Entries.{translate}
 use Rattle.tree_translation.specs.Plans.{Part, Plan}
 use Rattle.tree_translation.specs.Recursion.{Recursion}
@@ -19,13 +24,15 @@ use Rattle.clause_reports.specs.Reports.{Reference, Reported}
 use Rattle.clause_reports.specs.Stops.{ReportStop, Reporting}
 use Rattle.clause_reports.proofs.Keeping.{Grows, GrowsTo, enter_mention-grows, enter_needed-grows, entering-grows, grows_on, grows_same}
 use Rattle.clause_reports.proofs.ReportKeeping.{GrowsBy, report-grows}
-use Rattle.elab_session.specs.Declaring.{Declared, declare_of}
+use Rattle.elab_session.specs.Declaring.{Declared, declare_of, or_unresolved}
 use Rattle.elab_session.specs.Sessions.{IsReady}
 use Rattle.elab_session.specs.declared.refusal.Refusal as session
 use Rattle.elab_session.proofs.Resolved.{prelude-stays}
 use Rattle.clause_reports.specs.elaboration.Functions.{Following, Lines, enter_drafts, enter_plan, enter_values, first_domains, function_level, function_of, recursion_in, report_parts, report_walks}
 use Rattle.clause_reports.specs.elaboration.Refusals.{OfType, Owner, answers, granted, or_halts, or_no_report, owner_of, reporting}
 use Rattle.function_session.specs.Elaborating.{Elaborated, without_lines}
+use Rattle.function_session.specs.function_lines.Opened.{draft_in}
+use Rattle.function_session.specs.mutual_families.Declaring.{accepted_mutual, enter_mutual}
 use Rattle.function_session.proofs.Keeping.{function-has}
 use Rattle.function_session.proofs.DeclaredDecisions.{decision-has}
 use Rattle.elim.specs.k_laws.Lacking.{SignatureLacks}
@@ -144,11 +151,18 @@ plainly : (r : Result Declared session.Refusal) → IfOk (without_lines r) Shows
 plainly (Ok d) = tt
 plainly (Err e) = tt
 
+mutually : (x : Word) (raw : MutualRaw) (r : Result Signature session.Refusal) → IfOk (accepted_mutual x raw r) Shows
+mutually x raw (Ok T) = tt
+mutually x raw (Err e) = tt
+
 pub lines-lack : LinesLackAxiomK
 lines-lack s (surf.Def x ty body) ready off = plainly (declare_of s.signature s.fuel (surf.Def x ty body))
 lines-lack s (surf.Data x params ty cons) ready off = plainly (declare_of s.signature s.fuel (surf.Data x params ty cons))
 lines-lack s (surf.Decide x family into) ready off = decision-has Shows s.signature s.decisions s.fuel x family into (λ given T d. tt)
-lines-lack s (surf.Mutual params members family tag tags) ready off = plainly (declare_of s.signature s.fuel (surf.Mutual params members family tag tags))
+lines-lack s (surf.Mutual params members family tag tags) ready off =
+    let d = surf.Mutual params members family tag tags in
+    let x = declared_word d in
+    and_then-is Shows (or_unresolved (resolve_mutual s.signature d)) _ (λ raw is. mutually x raw (enter_mutual draft_in s.signature s.fuel x raw s.fuel).0)
 lines-lack s (surf.Fun x ty clauses) ready off =
     function-has Shows s.signature s.fuel x ty clauses (λ f is.
     (function-lines s.signature f s.fuel (start s.signature ready off) (at-ok (function-lacks s.signature x ty clauses) is)).only.is)

@@ -27,6 +27,7 @@ use Rattle.elim.proofs.memory_laws.Runs.{Only, ok, no, and-then, deep, either}
 use Rattle.elim.proofs.memory_laws.Declared.{IsForeseenRefusal, never-memory, of-name, of-stop}
 use Rattle.elim.proofs.memory_laws.Drafts.{drafted-low}
 use Rattle.elim.proofs.memory_laws.Functions.{draft-opened, elaborates, refused}
+use Rattle.elim.proofs.memory_laws.MutualFamilies.{mutual-foreseen}
 use Rattle.elim.proofs.memory_laws.Names.{new-name}
 
 -- the type of a value
@@ -108,9 +109,9 @@ decides s x family into = record {
 }
 
 pub declared-needs-no-memory : DeclaredNeedsNoMemory
-declared-needs-no-memory s (surf.Def x ty body) = never-memory _ (elaborates s.signature s.fuel (surf.Def x ty body)).is
-declared-needs-no-memory s (surf.Data x params ty cons) = never-memory _ (elaborates s.signature s.fuel (surf.Data x params ty cons)).is
+declared-needs-no-memory s (surf.Def x ty body) = never-memory _ (elaborates s.signature s.fuel (surf.Def x ty body) tt).is
+declared-needs-no-memory s (surf.Data x params ty cons) = never-memory _ (elaborates s.signature s.fuel (surf.Data x params ty cons) tt).is
 declared-needs-no-memory s (surf.Decide x family into) = never-memory _ (decides s x family into).is
 declared-needs-no-memory s (surf.Mutual params members family tag tags) =
-    never-memory _ (elaborates s.signature s.fuel (surf.Mutual params members family tag tags)).is
-declared-needs-no-memory s (surf.Fun x ty clauses) = never-memory _ (elaborates s.signature s.fuel (surf.Fun x ty clauses)).is
+    never-memory _ (mutual-foreseen s.signature s.fuel params members family tag tags).is
+declared-needs-no-memory s (surf.Fun x ty clauses) = never-memory _ (elaborates s.signature s.fuel (surf.Fun x ty clauses) tt).is

@@ -14,7 +14,7 @@ use Rattle.resolve.specs.Names.{known_in, scope_of}
 use Rattle.family_check.specs.Entering.{Entered}
 use Rattle.family_check.specs.Outcomes.{Site, FamilyStop}
 use Rattle.family_check.specs.Outcomes.FamilyStop.{Stopped, Denied, NotPositive, TooLarge, BadFamily, Duplicate}
-use Rattle.elab_session.specs.Declaring.{declare_of, declare_with, enter_declared, or_unresolved, resolve_definition, resolve_family}
+use Rattle.elab_session.specs.Declaring.{IsPlain, declare_of, declare_with, enter_declared, or_unresolved, resolve_definition, resolve_family}
 use Rattle.elab_session.specs.Entering.{answered, answers, checked, eliminator_in, enter_with, part_signature, constructor_names, refused}
 use Rattle.elab_session.specs.Refusals.{stopped, unentered, unresolved}
 use Rattle.elab_session.specs.declared.refusal.Refusal.{Refusal}
@@ -49,7 +49,7 @@ of-stop fuel stop.Fuel h = tt
 of-stop fuel stop.Deep h = tt
 of-stop fuel stop.PoolFull h = h
 
-of-entry : (over : Site → Signature) (names : List (List ℕ)) (x : Word) (fuel : ℕ) (e : FamilyStop) → IsForeseenEntry e
+pub of-entry : (over : Site → Signature) (names : List (List ℕ)) (x : Word) (fuel : ℕ) (e : FamilyStop) → IsForeseenEntry e
     → IsForeseenRefusal (unentered over names (Some x) fuel e)
 of-entry over names x fuel (Stopped e) h = of-stop fuel e h
 of-entry over names x fuel (Denied site d) h = tt
@@ -77,7 +77,7 @@ refused-as P refusal k (Err e) h = no (k e h.is)
 -- ---- entries
 
 -- the entry of a declaration
-abbrev IsNamed : RawEntry → Type 0
+abbrev pub IsNamed : RawEntry → Type 0
 IsNamed (RawFamilyOf raw) = Unit {0}
 IsNamed (RawDefinition name type body) = Unit {0}
 IsNamed _ = ⊥
@@ -98,7 +98,7 @@ named-checked S (RawDefinition name type body) left named = define S name type b
 named-checked S (RawEliminator n m) left named = absurd named
 named-checked S (RawAxiomK i m) left named = absurd named
 
-named-enters : (S : Signature) (start fuel : ℕ) (raw : RawEntry) (left : ℕ) → IsNamed raw → Ends IsForeseenRefusal (enter_with S start fuel raw left)
+pub named-enters : (S : Signature) (start fuel : ℕ) (raw : RawEntry) (left : ℕ) → IsNamed raw → Ends IsForeseenRefusal (enter_with S start fuel raw left)
 named-enters S start fuel raw left named =
     now (refused-as IsForeseenEntry (refused S start fuel raw) (of-named S start fuel raw named) (checked S raw left).0 (named-checked S raw left named).only)
 
@@ -152,12 +152,12 @@ with-entry : (S : Signature) (fuel : ℕ) (x : Word) (r : Result RawEntry Resolv
 with-entry S fuel x (Ok raw) left h = declared-enters S fuel x raw left h
 with-entry S fuel x (Err e) left h = now (no (of-name e h))
 
-pub declares : (S : Signature) (fuel : ℕ) (d : surf.Decl) (left : ℕ) → Ends IsForeseenRefusal (declare_with S fuel d left)
-declares S fuel (surf.Def x ty body) left = with-entry S fuel x _ left (definition S x ty body)
-declares S fuel (surf.Data x params ty cons) left = with-entry S fuel x _ left (family S x params ty cons)
-declares S fuel (surf.Decide x family decision) left = now (no tt)
-declares S fuel (surf.Mutual params members family tag tags) left = now (no tt)
-declares S fuel (surf.Fun x ty clauses) left = now (no tt)
+pub declares : (S : Signature) (fuel : ℕ) (d : surf.Decl) → IsPlain d → (left : ℕ) → Ends IsForeseenRefusal (declare_with S fuel d left)
+declares S fuel (surf.Def x ty body) plain left = with-entry S fuel x _ left (definition S x ty body)
+declares S fuel (surf.Data x params ty cons) plain left = with-entry S fuel x _ left (family S x params ty cons)
+declares S fuel (surf.Decide x family decision) plain left = absurd plain
+declares S fuel (surf.Mutual params members family tag tags) plain left = absurd plain
+declares S fuel (surf.Fun x ty clauses) plain left = absurd plain
 
-pub declare-needs-no-memory : (S : Signature) (fuel : ℕ) (d : surf.Decl) → declare_of S fuel d ≢ Err Memory
-declare-needs-no-memory S fuel d = never-memory _ (declares S fuel d fuel).only.is
+pub declare-needs-no-memory : (S : Signature) (fuel : ℕ) (d : surf.Decl) → IsPlain d → declare_of S fuel d ≢ Err Memory
+declare-needs-no-memory S fuel d plain = never-memory _ (declares S fuel d plain fuel).only.is

@@ -31,7 +31,7 @@ on-part site (Ok (Yes type)) h = ok
 on-part site (Ok (No denial)) h = no tt
 on-part site (Err e) h = no h.is
 
-is-sort : (S : Signature) (site : Site) (G : Context) (t : Term) (left : ℕ) → Ends IsForeseenEntry (sort_in S site G t left)
+pub is-sort : (S : Signature) (site : Site) (G : Context) (t : Term) (left : ℕ) → Ends IsForeseenEntry (sort_in S site G t left)
 unfolding sort_in
 is-sort S site G t left = now (on-part site _ (infer-sort S nesting G t left).only)
 

@@ -13,7 +13,7 @@ use Rattle.elab_session.specs.Declaring.{Declared}
 use Rattle.elab_session.specs.declared.refusal.Refusal as session
 use Rattle.elab_session.specs.declared.refusal.Refusal.TheVariants.{Memory}
 use Rattle.function_session.specs.function_lines.Opened.{checked_entered, draft_in, function_in}
-use Rattle.function_session.specs.Elaborating.{elaborate_of, enter_function, on_function, on_lines, without_lines}
+use Rattle.function_session.specs.Elaborating.{IsElaborated, elaborate_of, enter_function, on_function, on_lines, without_lines}
 use Rattle.function_session.specs.Refusals.{refused_function}
 use Rattle.elim.specs.memory_laws.Foreseen.{IsForeseenFunction, IsForeseenName}
 use Rattle.elim.proofs.memory_laws.Runs.{Only, Ends, ok, no, now, done, next, either-ends}
@@ -25,7 +25,7 @@ use Rattle.elim.proofs.memory_laws.Meant.{makes, plans}
 
 -- ---- over the signature of a session
 
-one-draft : (S : Signature) (name : List ℕ) (d : Draft) (left : ℕ) → Ends IsForeseenFunction (checked_entered S name d left)
+pub one-draft : (S : Signature) (name : List ℕ) (d : Draft) (left : ℕ) → Ends IsForeseenFunction (checked_entered S name d left)
 one-draft S name d left = next (reports S (owner_of name 0) (draft-enters S d left)) (λ e rest. done)
 
 pub draft-opened : (S : Signature) (name : List ℕ) (d : Draft) (left : ℕ) → Ends IsForeseenFunction (draft_in S name d left)
@@ -62,12 +62,12 @@ declared : (r : Result Declared session.Refusal) → Only IsForeseenRefusal r �
 declared (Ok d) h = ok
 declared (Err e) h = no h.is
 
-pub elaborates : (S : Signature) (fuel : ℕ) (d : surf.Decl) → Only IsForeseenRefusal (elaborate_of S fuel d)
-elaborates S fuel (surf.Def x ty body) = declared _ (declares S fuel (surf.Def x ty body) fuel).only
-elaborates S fuel (surf.Data x params ty cons) = declared _ (declares S fuel (surf.Data x params ty cons) fuel).only
-elaborates S fuel (surf.Decide x family decision) = declared _ (declares S fuel (surf.Decide x family decision) fuel).only
-elaborates S fuel (surf.Mutual params members family tag tags) = declared _ (declares S fuel (surf.Mutual params members family tag tags) fuel).only
-elaborates S fuel (surf.Fun x ty clauses) = with-function S fuel x _ (a-function S x ty clauses)
+pub elaborates : (S : Signature) (fuel : ℕ) (d : surf.Decl) → IsElaborated d → Only IsForeseenRefusal (elaborate_of S fuel d)
+elaborates S fuel (surf.Def x ty body) is = declared _ (declares S fuel (surf.Def x ty body) tt fuel).only
+elaborates S fuel (surf.Data x params ty cons) is = declared _ (declares S fuel (surf.Data x params ty cons) tt fuel).only
+elaborates S fuel (surf.Decide x family decision) is = absurd is
+elaborates S fuel (surf.Mutual params members family tag tags) is = absurd is
+elaborates S fuel (surf.Fun x ty clauses) is = with-function S fuel x _ (a-function S x ty clauses)
 
-pub elaborate-needs-no-memory : (S : Signature) (fuel : ℕ) (d : surf.Decl) → elaborate_of S fuel d ≢ Err Memory
-elaborate-needs-no-memory S fuel d = never-memory _ (elaborates S fuel d).is
+pub elaborate-needs-no-memory : (S : Signature) (fuel : ℕ) (d : surf.Decl) → IsElaborated d → elaborate_of S fuel d ≢ Err Memory
+elaborate-needs-no-memory S fuel d is = never-memory _ (elaborates S fuel d is).is

@@ -6,6 +6,7 @@ use Rattle.surface_syntax.specs.Trees as surf
 use Rattle.surface_syntax.specs.declared.tree.Word.{Word}
 use Rattle.resolve.specs.Families.{declared, names_of, parameters, constructors, family}
 use Rattle.resolve.specs.Functions.{clause_head, clause, clauses, right_side, arity_of, allowed_by, function}
+use Rattle.resolve.specs.Mutual.{declared_all, first_declared, known_with_members, member, member_names, members, mutual_family, names_of_all}
 use Rattle.resolve.specs.Names.{Known, Scope, scope_of, name_of, known_in, with_name, variable_of, named_term}
 use Rattle.resolve.specs.Patterns.{Constructor, bound, bound_all, constructor, count, head, pattern, patterns, variable}
 use Rattle.resolve.specs.Resolving.{Answer, low, binding, group, resolve, telescope, applied}
@@ -87,6 +88,39 @@ a-family S x params ty cons =
     and-then (term (known_in S) ty (scope_of (names_of params))) (λ type.
     and-then
     (all-constructors S (with_name own (tree.Fam (length S.entries)) (known_in S)) (scope_of (names_of params)) (own ∷ []) cons) (λ list. ok))))
+
+-- ---- families that refer to each other
+
+a-member : (S : Signature) (known : Known) (scope : Scope) (before : List (List ℕ)) (m : surf.Member) → Only IsForeseenName (member S known scope before m)
+a-member S known scope before m =
+    and-then (new-name S before m.name) (λ name.
+    and-then (term (known_in S) m.ty scope) (λ type.
+    and-then (all-constructors S known scope (before ++ name ∷ []) m.cons) (λ list. ok)))
+
+all-members : (S : Signature) (known : Known) (scope : Scope) (before : List (List ℕ)) (list : List surf.Member)
+    → Only IsForeseenName (members S known scope before list)
+all-members S known scope before [] = ok
+all-members S known scope before (m ∷ list) =
+    and-then (a-member S known scope before m) (λ raw. and-then (all-members S known scope (before ++ member_names m) list) (λ rest. ok))
+
+all-names : (S : Signature) (before : List (List ℕ)) (words : List Word) → Only IsForeseenName (declared_all S before words)
+all-names S before [] = ok
+all-names S before (x ∷ words) = and-then (new-name S before x) (λ name. and-then (all-names S (before ++ name ∷ []) words) (λ rest. ok))
+
+first-name : (S : Signature) (list : List surf.Member) → Only IsForeseenName (first_declared S list)
+first-name S [] = ok
+first-name S (m ∷ list) = and-then (new-name S [] m.name) (λ name. ok)
+
+pub mutual-families : (S : Signature) (params : List surf.Typed) (list : List surf.Member) (family tag : Word) (tags : List Word)
+    → Only IsForeseenName (mutual_family S params list family tag tags)
+mutual-families S params list family tag tags =
+    let before = names_of_all list in
+    and-then (first-name S list) (λ first.
+    and-then (types (known_in S) [] params) (λ types.
+    and-then (all-members S (known_with_members S list) (scope_of (names_of params)) [] list) (λ raws.
+    and-then (new-name S before family) (λ own.
+    and-then (new-name S (before ++ own ∷ []) tag) (λ kind.
+    and-then (all-names S ((before ++ own ∷ []) ++ kind ∷ []) tags) (λ words. ok))))))
 
 -- ---- patterns and clauses
 

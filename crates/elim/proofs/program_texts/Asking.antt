@@ -10,10 +10,9 @@ use Rattle.surface_syntax.specs.declared.tree.Decl as code
 use Rattle.surface_syntax.specs.declared.stop.SyntaxStop.{SyntaxStop}
 use Rattle.surface_syntax.specs.declared.stop.SyntaxStop.TheVariants as syntax
 use Rattle.surface_syntax.specs.Parses.{parsed, GivesAnswer}
-use Rattle.elim.specs.program_texts.Unbuilt.{unbuilt}
 use Rattle.elim.specs.declared.program_texts.text_stop.TextStop.{TextStop}
 use Rattle.elim.specs.declared.program_texts.text_stop.TextStop.TheVariants as stop
-use Rattle.elim.specs.program_texts.Texts.{Answer, Gives, too_long, not_utf8, bad_token, tokens, Says, limit, limited, is_memory, stop_of, read, unless_unbuilt}
+use Rattle.elim.specs.program_texts.Texts.{Gives, too_long, not_utf8, bad_token, tokens, Says, limit, limited, is_memory, stop_of, read}
 
 abbrev pub Failure : TextStop → Result (List code.Decl) TextStop
 Failure e = Err e
@@ -28,26 +27,18 @@ no_tokens bytes (syntax.BadToken offset) s within says is = λ _. subst (λ x. G
 no_tokens bytes (syntax.Nested offset) s within says is = absurd says
 no_tokens bytes (syntax.Syntax offset) s within says is = absurd says
 
-pub not_built : (bytes : List ℕ) (found : List Token) (offset : ℕ) → length bytes ≤ limit → AreTokens bytes found → unbuilt bytes found ≡ Some offset → Says bytes (Failure (stop.NotYet offset))
-not_built bytes found offset within are is =
-    λ _. subst (λ o. Gives bytes (unless_unbuilt o (read (parsed bytes found)))) is (tokens found within are)
-
-given : (bytes : List ℕ) (found : List Token) (answer : Answer) → length bytes ≤ limit → AreTokens bytes found → unbuilt bytes found ≡ None → answer ≡ read (parsed bytes found) → Gives bytes answer
-given bytes found answer within are none is =
-    subst (Gives bytes) (ap (λ o. unless_unbuilt o (read (parsed bytes found))) none ∙ sym is) (tokens found within are)
-
-pub not_parsed : (bytes : List ℕ) (found : List Token) (e : SyntaxStop) (s : TextStop) (r : Result (List code.Decl) SyntaxStop) → length bytes ≤ limit → AreTokens bytes found → unbuilt bytes found ≡ None
+pub not_parsed : (bytes : List ℕ) (found : List Token) (e : SyntaxStop) (s : TextStop) (r : Result (List code.Decl) SyntaxStop) → length bytes ≤ limit → AreTokens bytes found
     → r ≡ Err e → GivesAnswer (map decl_of) r (parsed bytes found) → s ≡ stop_of e → Says bytes (Failure s)
-not_parsed bytes found e s r within are none failed gives is =
-    λ h. given bytes found (Err s) within are none (ap Err is ∙ ap read (meant (λ m. h (is ∙ ap stop_of m))))
+not_parsed bytes found e s r within are failed gives is =
+    λ h. subst (Gives bytes) (sym (ap Err is ∙ ap read (meant (λ m. h (is ∙ ap stop_of m))))) (tokens found within are)
   where
     meant : e ≢ syntax.Memory → Err e ≡ parsed bytes found
     meant = let P : Result (List code.Decl) SyntaxStop → Type 0 = λ x. GivesAnswer (map decl_of) x (parsed bytes found) in subst P failed gives
 
-pub is_parsed : (bytes : List ℕ) (found : List Token) (decls : List code.Decl) (r : Result (List code.Decl) SyntaxStop) → length bytes ≤ limit → AreTokens bytes found → unbuilt bytes found ≡ None
+pub is_parsed : (bytes : List ℕ) (found : List Token) (decls : List code.Decl) (r : Result (List code.Decl) SyntaxStop) → length bytes ≤ limit → AreTokens bytes found
     → r ≡ Ok decls → GivesAnswer (map decl_of) r (parsed bytes found) → Says bytes (Success decls)
-is_parsed bytes found decls r within are none ok gives =
-    given bytes found (Ok (map decl_of decls)) within are none (ap read meant)
+is_parsed bytes found decls r within are ok gives =
+    subst (Gives bytes) (sym (ap read meant)) (tokens found within are)
   where
     meant : Ok (map decl_of decls) ≡ parsed bytes found
     meant = let P : Result (List code.Decl) SyntaxStop → Type 0 = λ x. GivesAnswer (map decl_of) x (parsed bytes found) in subst P ok gives
@@ -68,7 +59,6 @@ not_memory stop.Memory e h = cc
 not_memory stop.TooLong e h = cc
 not_memory (stop.NotUtf8 offset) e h = cc
 not_memory (stop.BadToken offset) e h = cc
-not_memory (stop.NotYet offset) e h = cc
 not_memory (stop.Nested offset) e h = cc
 not_memory (stop.Syntax offset) e h = cc
 not_memory (stop.NotCoreText offset) e h = cc

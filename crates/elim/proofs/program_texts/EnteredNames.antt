@@ -34,7 +34,7 @@ use Rattle.drafts.specs.draft_entering.Tables.{IsListed, names_by, IsMadeOf}
 use Rattle.drafts.proofs.draft_entering.TableLookups.{found-listed, generated-made}
 use Rattle.elab_session.proofs.Adding.{define-enters, instance-enters}
 use Rattle.elim.proofs.program_texts.SessionInLine.{NamesIn, has-names, each-last, context-in, reason-in, level-in}
-use Rattle.elim.proofs.program_texts.TokensInLine.{Each}
+use Rattle.surface_syntax.specs.word_laws.Words.{Each}
 
 abbrev pub EntryIn : Entry → Type 0
 EntryIn e = AreInLine (names_of e)

@@ -13,8 +13,7 @@ use Rattle.surface_syntax.specs.declared.token.TokenKind.TheVariants.{Plain, Dot
 use Rattle.surface_syntax.specs.declared.lexeme.Lexeme.{Lexeme}
 use Rattle.surface_syntax.specs.declared.lexeme.Lexeme.TheVariants as x
 use Rattle.surface_syntax.specs.Lexemes.{leveled, number, spelled, word_of, lexemes_of}
-use Rattle.resolve.specs.DeclaredNames.{first_name}
-use Rattle.elim.proofs.program_texts.TokensInLine.{Each}
+use Rattle.surface_syntax.specs.word_laws.Words.{Each}
 
 abbrev pub WordIn : Word → Type 0
 WordIn w = is_in_line w.text ≡ true
@@ -78,12 +77,16 @@ abbrev mutual
 abbrev pub TypedIn : surf.Typed → Type 0
 TypedIn p = WordIn p.name × UsesInLine p.ty
 
--- A declaration whose words are in line; of one that is not implemented yet the name alone is looked at.
+-- one of several families that refer to each other
+abbrev pub MemberIn : surf.Member → Type 0
+MemberIn m = WordIn m.name × UsesInLine m.ty × Each TypedIn m.cons
+
+-- a declaration whose words are in line
 abbrev pub DeclInLine : surf.Decl → Type 0
 DeclInLine (surf.Def x ty body) = WordIn x × UsesInLine ty × UsesInLine body
 DeclInLine (surf.Data x params ty cons) = WordIn x × Each TypedIn params × UsesInLine ty × Each TypedIn cons
 DeclInLine (surf.Decide x family into) = WordIn x × WordIn family × WordIn into
-DeclInLine (surf.Mutual params members f tag tags) = WordIn (first_name members f)
+DeclInLine (surf.Mutual params members f tag tags) = Each TypedIn params × Each MemberIn members × WordIn f × WordIn tag × Each WordIn tags
 DeclInLine (surf.Fun x ty clauses) = WordIn x × UsesInLine ty × ClausesInLine clauses
 
 applied-in : (h : surf.Surf) (args : List surf.Surf) → UsesInLine h → AllInLine (surf.surfs args) → UsesInLine (g.applied h args)
@@ -136,13 +139,14 @@ module _ (allows : ℕ → ℕ → Bool) where
   cons-in g.Cons.none h = (tt, h.1)
   cons-in (g.Cons.some cs) h = listed-in cs h
 
-  members-in : {ts rest : List Lexeme} {ms : List surf.Member} → g.Members allows ts rest ms → Each IsGood ts → Each IsGood rest
-  members-in (g.Members.last a cs) h = let p = term-in a h.1.1.1 in (cons-in cs p.1.1).1
-  members-in (g.Members.more a cs ms) h = let p = term-in a h.1.1.1 in members-in ms (cons-in cs p.1.1).1
+  members-in : {ts rest : List Lexeme} {ms : List surf.Member} → g.Members allows ts rest ms → Each IsGood ts → Each MemberIn ms × Each IsGood rest
+  members-in (g.Members.last a cs) h = let p = term-in a h.1.1.1 in let q = cons-in cs p.1.1 in (((h.1.0, p.0, q.0), tt), q.1)
+  members-in (g.Members.more a cs ms) h =
+      let p = term-in a h.1.1.1 in let q = cons-in cs p.1.1 in let r = members-in ms q.1 in (((h.1.0, p.0, q.0), r.0), r.1)
 
-  tags-in : {ts rest : List Lexeme} {tags : List Word} → g.Tags allows ts rest tags → Each IsGood ts → Each IsGood rest
-  tags-in g.Tags.last h = h.1.1
-  tags-in (g.Tags.more tags) h = tags-in tags h.1.1
+  tags-in : {ts rest : List Lexeme} {tags : List Word} → g.Tags allows ts rest tags → Each IsGood ts → Each WordIn tags × Each IsGood rest
+  tags-in g.Tags.last h = ((h.0, tt), h.1.1)
+  tags-in (g.Tags.more tags) h = let p = tags-in tags h.1.1 in ((h.0, p.0), p.1)
 
   mutual
     pat-in : {d n : ℕ} {ts rest : List Lexeme} {p : surf.Pat} → g.Pat allows d ts rest p n → Each IsGood ts → PatInLine p × Each IsGood rest
@@ -180,7 +184,8 @@ module _ (allows : ℕ → ℕ → Bool) where
       let p = params-in ps h.1.1 in let q = term-in a p.1.1 in let r = cons-in cs q.1.1 in ((h.1.0, p.0, q.0, r.0), r.1)
   decl-in (g.families ps a cs ms tags) h =
       let p = params-in ps h.1.1 in let q = term-in a p.1.1 in let r = cons-in cs q.1.1 in
-      let m = members-in ms r.1 in (h.1.0, tags-in tags m.1.1.1.1)
+      let m = members-in ms r.1 in let n = tags-in tags m.1.1.1.1.1 in
+      ((p.0, ((h.1.0, q.0, r.0), m.0), m.1.1.0, m.1.1.1.0, n.0), n.1)
   decl-in (g.function a cs) h = let p = term-in a h.1.1.1 in let q = clauses-in cs p.1.1 in ((h.1.0, p.0, q.0), q.1)
 
   pub file-in : {ts : List Lexeme} {ds : List surf.Decl} → g.File allows ts ds → Each IsGood ts → Each DeclInLine ds

@@ -25,7 +25,6 @@ stop-in stop.Memory = refl
 stop-in stop.TooLong = refl
 stop-in (stop.NotUtf8 offset) = both (codes "# refused NotUtf8 ") (decimal offset) refl (decimal-in offset)
 stop-in (stop.BadToken offset) = both (codes "# refused BadToken ") (decimal offset) refl (decimal-in offset)
-stop-in (stop.NotYet offset) = both (codes "# refused NotYet ") (decimal offset) refl (decimal-in offset)
 stop-in (stop.Nested offset) = both (codes "# refused Nested ") (decimal offset) refl (decimal-in offset)
 stop-in (stop.NotCoreText offset) = both (codes "# refused NotCoreText ") (decimal offset) refl (decimal-in offset)
 stop-in (stop.Syntax offset) = both (codes "# refused Syntax ") (decimal offset) refl (decimal-in offset)

@@ -20,7 +20,6 @@ use Rattle.surface_syntax.specs.Trees as surf
 use Rattle.surface_syntax.specs.declared.tree.Word.{Word}
 use Rattle.core_terms.specs.Answers.{and_next, and_then, on_answer}
 use Rattle.core_sig.specs.Raw.{RawFamily, RawConstructor, raw_names}
-use Rattle.resolve.specs.DeclaredNames.{first_name}
 use Rattle.resolve.specs.Families.{declared, parameters, constructors}
 use Rattle.resolve.specs.Families as resolve_family
 use Rattle.family_check.specs.Families.{family_without}
@@ -41,7 +40,8 @@ use Rattle.elab_session.specs.declared.refusal.PartName.{PartName}
 use Rattle.elab_session.specs.declared.refusal.Refusal.{Refusal}
 use Rattle.elim.specs.program_texts.Refusals.{candidate_lines, candidate_of, denial_text, part_text, place_text, refusal_text}
 use Rattle.elim.proofs.program_texts.GrammarInLine.{WordIn, UsesInLine, AllInLine, BindersInLine, TypedIn, DeclInLine}
-use Rattle.elim.proofs.program_texts.TokensInLine.{Each, each, apart, cons-in}
+use Rattle.surface_syntax.specs.word_laws.Words.{Each}
+use Rattle.elim.proofs.program_texts.TokensInLine.{each, apart, cons-in}
 
 -- Names of a signature.
 
@@ -167,16 +167,16 @@ named-word S before x h = go (is_some (find S x.text) || list_any (bytes_eq x.te
     go true = h
     go false = h
 
-parameters-in : (known : Known) (before : List (List ℕ)) (params : List surf.Typed) → Each TypedIn params → Refuses (parameters known before params)
+pub parameters-in : (known : Known) (before : List (List ℕ)) (params : List surf.Typed) → Each TypedIn params → Refuses (parameters known before params)
 parameters-in known before [] h = tt
 parameters-in known before (p ∷ params) h =
     next (resolve known p.ty (scope_of before)) _ (resolve-in known p.ty (scope_of before) h.0.1) (λ type.
     next (parameters known (before ++ p.name.text ∷ []) params) _ (parameters-in known (before ++ p.name.text ∷ []) params h.1) (λ types. tt))
 
-abbrev RawConstructorsIn : List RawConstructor → Type 0
+abbrev pub RawConstructorsIn : List RawConstructor → Type 0
 RawConstructorsIn list = AreInLine (map (λ c. c.name) list)
 
-raw-constructors-in : (S : Signature) (known : Known) (scope : Scope) (before : List (List ℕ)) (cons : List surf.Typed) → Each TypedIn cons →
+pub raw-constructors-in : (S : Signature) (known : Known) (scope : Scope) (before : List (List ℕ)) (cons : List surf.Typed) → Each TypedIn cons →
     Resolves RawConstructorsIn (constructors S known scope before cons)
 raw-constructors-in S known scope before [] h = tt
 raw-constructors-in S known scope before (c ∷ cons) h =
@@ -257,7 +257,7 @@ place-in [] = refl
 place-in (n ∷ []) = decimal-in n
 place-in (n ∷ m ∷ place) = both (decimal n ++ codes ".") (place_text (m ∷ place)) (both (decimal n) (codes ".") (decimal-in n) refl) (place-in (m ∷ place))
 
-chosen-in : (names : List (List ℕ)) (n : ℕ) → AreInLine names → is_in_line (refusals.name_in names n) ≡ true
+pub chosen-in : (names : List (List ℕ)) (n : ℕ) → AreInLine names → is_in_line (refusals.name_in names n) ≡ true
 chosen-in [] zero h = refl
 chosen-in [] (suc n) h = refl
 chosen-in (x ∷ names) zero h = h.0
@@ -290,7 +290,7 @@ stopped-in fuel stop.Fuel = (both (codes "Fuel ") (decimal fuel) refl (decimal-i
 stopped-in fuel stop.Deep = (refl, tt)
 stopped-in fuel stop.PoolFull = (refl, tt)
 
-argument-in : (kind owner : List ℕ) (k : ℕ) → is_in_line kind ≡ true → is_in_line owner ≡ true → is_in_line (kind ++ owner ++ codes " " ++ decimal k) ≡ true
+pub argument-in : (kind owner : List ℕ) (k : ℕ) → is_in_line kind ≡ true → is_in_line owner ≡ true → is_in_line (kind ++ owner ++ codes " " ++ decimal k) ≡ true
 argument-in kind owner k h j = both (kind ++ owner ++ codes " ") (decimal k) (both (kind ++ owner) (codes " ") (both kind owner h j) refl) (decimal-in k)
 
 pub unentered-in : (over : Site → Signature) (names : List (List ℕ)) → ((site : Site) → NamesIn (over site)) → AreInLine names → (x : Option Word) → IfSome x WordIn → (fuel : ℕ) (e : FamilyStop) →
@@ -342,9 +342,9 @@ refused-in S fuel (surf.Def x ty body) names h =
     resolved-in EntryNamesIn S fuel x (session.resolve_definition S x ty body) (definition-in S x ty body h.0 h.1 h.2) (λ raw n. entry-refused-in S names x.start fuel raw n)
 refused-in S fuel (surf.Data x params ty cons) names h =
     resolved-in EntryNamesIn S fuel x (session.resolve_family S x params ty cons) (data-in S x params ty cons h.0 h.1 h.2 h.3) (λ raw n. entry-refused-in S names x.start fuel raw n)
-refused-in S fuel (surf.Decide x f e) names h = (both (codes "NotYet ") (decimal x.start) refl (decimal-in x.start), tt)
-refused-in S fuel (surf.Mutual params members f tag tags) names h = (both (codes "NotYet ") (decimal (first_name members f).start) refl (decimal-in (first_name members f).start), tt)
-refused-in S fuel (surf.Fun x ty clauses) names h = (both (codes "NotYet ") (decimal x.start) refl (decimal-in x.start), tt)
+refused-in S fuel (surf.Decide x f e) names h = (refl, tt)
+refused-in S fuel (surf.Mutual params members f tag tags) names h = (refl, tt)
+refused-in S fuel (surf.Fun x ty clauses) names h = (refl, tt)
 
 -- an accepted declaration has a name in line, and the names of its signature are in line
 pub record AcceptedIn (a : session.Declared) : Type 0 where

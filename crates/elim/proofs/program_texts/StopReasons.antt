@@ -8,7 +8,6 @@ stops-have-reasons stop.Memory = omega arith
 stops-have-reasons stop.TooLong = omega arith
 stops-have-reasons (stop.NotUtf8 offset) = omega arith
 stops-have-reasons (stop.BadToken offset) = omega arith
-stops-have-reasons (stop.NotYet offset) = omega arith
 stops-have-reasons (stop.Nested offset) = omega arith
 stops-have-reasons (stop.Syntax offset) = omega arith
 stops-have-reasons (stop.NotCoreText offset) = omega arith

@@ -23,12 +23,8 @@ use Rattle.surface_syntax.specs.TokenLaws.{IsTokenOf}
 use Rattle.surface_syntax.specs.Tokens.{IsName, letter, underscore, IsNumber, naught, digits, Spells, keyword, plain, dotted, number, mark, arrow, IsFirstToken}
 use Rattle.surface_syntax.specs.declared.token.Token.{Token}
 use Rattle.surface_syntax.specs.declared.token.TokenKind.{TokenKind}
+use Rattle.surface_syntax.specs.word_laws.Words.{Each}
 use Rattle.surface_syntax.proofs.TokenLaws.{slices}
-
--- each element has P
-abbrev pub Each : {A : Type 0} → (A → Type 0) → List A → Type 0
-Each P [] = Unit {0}
-Each P (x ∷ xs) = P x × Each P xs
 
 pub each : {A : Type 0} (P Q : A → Type 0) → ((x : A) → P x → Q x) → (xs : List A) → All P xs → Each Q xs
 each P Q f [] h = tt

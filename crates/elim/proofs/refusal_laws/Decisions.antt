@@ -35,7 +35,7 @@ IfShown (reason.Rejected entry line place context cause) =
     IsDenied (record { entry = entry; line = line; place = place; context = context; reason = cause })
 IfShown _ = Unit {0}
 
-abbrev IfDenied : function.Refusal → Type 0
+abbrev pub IfDenied : function.Refusal → Type 0
 IfDenied (function.Rejected r) = IsDenied r
 IfDenied _ = Unit {0}
 
@@ -53,7 +53,7 @@ checked-denied S name d left =
     next-refuses Any IfDenied entered _
     (splits-any IfDenied entered.0 (report-denied S (owner_of name 0) (enter_draft_of S d left).0 (entering-rejects S d left))) (λ e rest u. tt)
 
-opened-denied : (S : Signature) (name : List ℕ) (d : Draft) (left : ℕ) → Refuses IfDenied (draft_in S name d left)
+pub opened-denied : (S : Signature) (name : List ℕ) (d : Draft) (left : ℕ) → Refuses IfDenied (draft_in S name d left)
 opened-denied S name d left = by (unmarked S)
   where
     by : (b : Bool) → Refuses IfDenied (cond b (checked_entered S name d left) (deep left))

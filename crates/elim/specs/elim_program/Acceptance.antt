@@ -8,12 +8,11 @@ use Rattle.function_session.specs.Declaring.{declared_in, new_session, with_decl
 use Rattle.function_session.specs.Elaborating.{Elaborated}
 use Rattle.function_session.specs.Laws.{IsAsDeclared}
 use Rattle.function_session.specs.Sessions.{Session}
-use Rattle.elim.specs.program_texts.ClauseTexts.{clause_lines}
 use Rattle.elim.specs.declared.program_texts.words.Command.{Command}
 use Rattle.elim.specs.elim_program.DefinedOutputs.{IsOutput}
 use Rattle.elim.specs.elim_program.Headline.{IsShown, Shows, core_lines}
 use Rattle.elim.specs.program_texts.Lines.{lines_of, text_of}
-use Rattle.elim.specs.elim_program.Outputs.{Output, accepted_line, head_lines, lines_after}
+use Rattle.elim.specs.elim_program.Outputs.{Output, accepted_line, head_lines, lines_after, note_lines}
 use Rattle.elim.specs.program_texts.Texts.{Gives}
 use Rattle.elim.specs.program_texts.Words.{asked}
 
@@ -22,9 +21,9 @@ pub data Accepts : Session → List Decl → Session → Type 0 where
   end : (s : Session) → Accepts s [] s
   next : (s t : Session) (d : Decl) (ds : List Decl) (a : Elaborated) → declared_in s d ≡ Ok a → Accepts (with_declared s d a.signature) ds t → Accepts s (d ∷ ds) t
 
--- the lines of what is accepted over S, up to the one that says so: its entries, and then its clauses
+-- the lines of what is accepted over S, up to the one that says so: its entries, and then its clauses or the equations of its inductions
 abbrev pub own_lines : Signature → Elaborated → List (List ℕ)
-own_lines S a = lines_after S a.signature ++ clause_lines a.signature a.lines
+own_lines S a = lines_after S a.signature ++ note_lines a.signature a.lines a.equations
 
 -- The words ask to compile, the bytes give the declarations, and those before this one are accepted one by one from the prelude on. The
 -- elaborator accepts the declaration in the session that they come to, with as much fuel as the words give, and what is

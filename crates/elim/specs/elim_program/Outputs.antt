@@ -1,12 +1,14 @@
 -- Lines of declarations, and the outputs that they make.
-use Rattle.std.specs.Prelude.{ℕ, zero, suc, ◌+◌, ◌-◌, Bool, true, false, if◌then◌else◌, List, [], ◌∷◌, ◌++◌, length, slice_get, codes, Option, Some, None, Result, Ok, Err}
+use Rattle.std.specs.Prelude.{ℕ, zero, suc, ◌+◌, ◌-◌, Bool, true, false, if◌then◌else◌, List, [], ◌∷◌, ◌++◌, length, map, slice_get, codes, Option, Some, None, Result, Ok, Err}
 use Rattle.theory.specs.Signatures.{Entry, Signature}
 use Rattle.surface_syntax.specs.Trees as surf
 use Rattle.resolve.specs.DeclaredNames.{declared_word}
+use Rattle.clause_reports.specs.elaboration.Functions.{ClauseLine}
 use Rattle.core_text.specs.EntryText.{entry_text}
 use Rattle.function_session.specs.Declaring.{declared_in, new_session, session_after}
 use Rattle.function_session.specs.Elaborating.{Elaborated}
 use Rattle.function_session.specs.Sessions.{Session}
+use Rattle.function_session.specs.mutual_families.EquationLines.{MutualLine}
 use Rattle.elab_session.specs.declared.refusal.Refusal.{Refusal}
 use Rattle.elim.specs.declared.program_texts.status.Status.{Status}
 use Rattle.elim.specs.declared.program_texts.status.Status.TheVariants as status
@@ -43,10 +45,17 @@ accepted_line name = codes "# accepted " ++ name
 abbrev pub declared_name : surf.Decl → List ℕ
 declared_name d = (declared_word d).text
 
--- the lines of what is accepted over S: its entries, then its clauses, then that it is accepted
+-- the line of the equation of a member's constructor, both sides of which convert
+abbrev pub mutual_line : MutualLine → List ℕ
+mutual_line l = codes "# mutual " ++ l.0 ++ codes " " ++ l.1 ++ codes " definitional"
+
+-- the lines of the clauses of a function, or of the equations of inductions; a declaration has only one of both
+abbrev pub note_lines : Signature → List ClauseLine → List MutualLine → List (List ℕ)
+note_lines S clauses equations = clause_lines S clauses ++ map mutual_line equations
+
+-- the lines of what is accepted over S: its entries, then its clauses or the equations of its inductions, then that it is accepted
 abbrev pub accepted_lines : Signature → Elaborated → List (List ℕ)
-accepted_lines S a =
-    lines_after S a.signature ++ (clause_lines a.signature a.lines ++ accepted_line a.name ∷ [])
+accepted_lines S a = lines_after S a.signature ++ (note_lines a.signature a.lines a.equations ++ accepted_line a.name ∷ [])
 
 -- the lines of a declaration over S
 abbrev pub declared_block : Signature → surf.Decl → Result Elaborated Refusal → Block

@@ -13,7 +13,7 @@ use Rattle.elim.specs.headline.program_laws.WithoutK.{AreWithoutK}
 use Rattle.elim.specs.headline.verified_laws.AcceptedLines.{IsReported}
 
 -- The headline and the elaborator speak of the same declaration of the source file, over the same entries, with the same signature
--- after it and the same clauses, and of the same plan of a function.
+-- after it, the same clauses and the same equations, and of the same plan of a function.
 pub record IsOfTheSame (words : List (List ℕ)) (bytes : List ℕ) (above : List (List ℕ)) (name : List ℕ) (shown : IsShown words bytes above name)
     (accepted : IsAccepted words bytes above name) : Type 0 where
   pub k : shown.k ≡ accepted.command.k
@@ -23,7 +23,8 @@ pub record IsOfTheSame (words : List (List ℕ)) (bytes : List ℕ) (above : Lis
   pub before : shown.before ≡ accepted.session.signature
   pub after : shown.after ≡ accepted.accepted.signature
   pub clauses : shown.clauses ≡ accepted.accepted.lines
-  pub plan : HasSamePlan shown.before name shown.after shown.clauses shown.declaration shown.written accepted.session accepted.accepted
+  pub equations : shown.equations ≡ accepted.accepted.equations
+  pub plan : HasSamePlan shown.before name shown.after shown.clauses shown.equations shown.declaration shown.written accepted.session accepted.accepted
       accepted.declaration accepted.written
 
 -- The headline, and what more is known of the same declaration.

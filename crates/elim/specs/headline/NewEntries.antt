@@ -1,5 +1,5 @@
--- The entries that an accepted function or decision of equality adds.
-use Rattle.std.specs.Prelude.{◌≡◌, ◌≤◌, ℕ, Some, Ok, List, [], ◌∷◌, Contains, length, map}
+-- The entries that an accepted function, a decision of equality, or families that refer to each other add.
+use Rattle.std.specs.Prelude.{◌≡◌, ◌≤◌, ℕ, ◌+◌, Some, Ok, List, [], ◌∷◌, Contains, length, map}
 use Rattle.theory.specs.Terms.{Term}
 use Rattle.theory.specs.Signatures.{AxiomKAt, Definition, EliminatorAt, Entry, IsEntryAt, Signature}
 use Rattle.theory.specs.WellFormed.{first_entries}
@@ -30,10 +30,14 @@ pub data IsNewEntry (B : Signature) (drafts : List Draft) (lines : List ClauseLi
   axiom_k : (i m : ℕ) → IsNewEntry B drafts lines (AxiomKAt i m)
 
 -- Each entry that a function adds is one of these over the entries before it, by the drafts and the lines of the function, and so is each
--- that a decision of equality adds, by its one draft. A definition or a family adds itself alone.
+-- that a decision of equality adds, by its one draft. Families that refer to each other add what they are packed into, and then such entries,
+-- by the drafts of the inductions. A definition or a family adds itself alone.
 abbrev pub AreNewEntries : (s : Session) (d : Decl) (a : Elaborated) → IsAsDeclared s d a → Type 0
 AreNewEntries s (surf.Fun x ty clauses) a w =
     (n : ℕ) (e : Entry) → length s.signature.entries ≤ n → IsEntryAt a.signature n e → IsNewEntry (first_entries a.signature n) w.drafts a.lines e
 AreNewEntries s (surf.Decide x family into) a w =
     (n : ℕ) (e : Entry) → length s.signature.entries ≤ n → IsEntryAt a.signature n e → IsNewEntry (first_entries a.signature n) (w.draft ∷ []) a.lines e
+AreNewEntries s (surf.Mutual params members family tag tags) a w =
+    (n : ℕ) (e : Entry) → length s.signature.entries + 2 + length w.packed.members ≤ n → IsEntryAt a.signature n e
+    → IsNewEntry (first_entries a.signature n) w.drafts a.lines e
 AreNewEntries s d a w = Unit {0}

@@ -16,13 +16,13 @@ use Rattle.kernel_check.specs.Checking.{check_of, infer_of, infer_sort_of}
 use Rattle.family_check.specs.Entering.{axiom_k_of, declare_of as declare_family_of, define_of, instance_of}
 use Rattle.resolve.specs.Functions.{Function}
 use Rattle.surface_syntax.specs.Trees as surf
-use Rattle.elab_session.specs.Declaring.{declare_of}
+use Rattle.elab_session.specs.Declaring.{IsPlain, declare_of}
 use Rattle.elab_session.specs.Entering.{enter_of}
 use Rattle.elab_session.specs.declared.refusal.Refusal.TheVariants.{Memory}
 use Rattle.clause_reports.specs.elaboration.Functions.{function_of}
 use Rattle.function_session.specs.function_lines.Opened.{function_in}
 use Rattle.function_session.specs.Declaring.{declared_in}
-use Rattle.function_session.specs.Elaborating.{elaborate_of}
+use Rattle.function_session.specs.Elaborating.{IsElaborated, elaborate_of}
 use Rattle.function_session.specs.Sessions.{Session}
 use Rattle.elim.specs.memory_laws.Foreseen.{IsForeseen, IsForeseenEntry, IsForeseenFunction, IsForeseenInstance}
 
@@ -97,10 +97,10 @@ abbrev pub MeantForeseen : Type 0
 MeantForeseen = (S : Signature) (f : Function) (fuel : ℕ) → IfErr (function_of S f fuel).0 IsForeseenFunction
 
 abbrev pub DeclareNeedsNoMemory : Type 0
-DeclareNeedsNoMemory = (S : Signature) (fuel : ℕ) (d : surf.Decl) → declare_of S fuel d ≢ Err Memory
+DeclareNeedsNoMemory = (S : Signature) (fuel : ℕ) (d : surf.Decl) → IsPlain d → declare_of S fuel d ≢ Err Memory
 
 abbrev pub ElaborateNeedsNoMemory : Type 0
-ElaborateNeedsNoMemory = (S : Signature) (fuel : ℕ) (d : surf.Decl) → elaborate_of S fuel d ≢ Err Memory
+ElaborateNeedsNoMemory = (S : Signature) (fuel : ℕ) (d : surf.Decl) → IsElaborated d → elaborate_of S fuel d ≢ Err Memory
 
 -- whatever is declared in a session
 abbrev pub DeclaredNeedsNoMemory : Type 0

@@ -17,7 +17,6 @@ stop_text stop.Memory = codes "Memory"
 stop_text stop.TooLong = codes "TooLong 1048576"
 stop_text (stop.NotUtf8 offset) = codes "NotUtf8 " ++ decimal offset
 stop_text (stop.BadToken offset) = codes "BadToken " ++ decimal offset
-stop_text (stop.NotYet offset) = codes "NotYet " ++ decimal offset
 stop_text (stop.Nested offset) = codes "Nested " ++ decimal offset
 stop_text (stop.Syntax offset) = codes "Syntax " ++ decimal offset
 stop_text (stop.NotCoreText offset) = codes "NotCoreText " ++ decimal offset
@@ -105,17 +104,24 @@ function_text (refusal.NotSmaller calls) = codes "NotSmaller" ++ failing_calls_t
 function_text (refusal.Rejected entry line place ctx reason) = codes "Rejected " ++ entry ++ codes " " ++ denial_text place ctx reason
 function_text e = ended_text e
 
--- why a decision of equality is refused, or a function; other refusals have no such text
+-- why families that refer to each other are refused, or a function; other refusals have no such text
+abbrev pub mutual_text : Refusal → List ℕ
+mutual_text (refusal.TagCount count) = codes "TagCount " ++ decimal count
+mutual_text (refusal.MemberLevel k) = codes "MemberLevel " ++ decimal k
+mutual_text (refusal.Unequal member con ctx left right) =
+    codes "Unequal " ++ member ++ codes " " ++ con ++ codes " " ++ sides_text ctx left right
+mutual_text e = function_text e
+
+-- why a decision of equality is refused, families that refer to each other, or a function; other refusals have no such text
 abbrev pub undecided_text : Refusal → List ℕ
 undecided_text (refusal.NotPlainFamily word) = codes "NotPlainFamily " ++ word
 undecided_text (refusal.NotDecision word) = codes "NotDecision " ++ word
 undecided_text (refusal.NotFirstOrder name k) = codes "NotFirstOrder " ++ name ++ codes " " ++ decimal k
-undecided_text e = function_text e
+undecided_text e = mutual_text e
 
 -- why a declaration is refused
 abbrev pub refusal_text : Refusal → List ℕ
 refusal_text refusal.Memory = codes "Memory"
-refusal_text (refusal.NotYet offset) = codes "NotYet " ++ decimal offset
 refusal_text (refusal.Fuel units) = codes "Fuel " ++ decimal units
 refusal_text refusal.Deep = codes "Deep"
 refusal_text (refusal.UnknownName offset word) = codes "UnknownName " ++ decimal offset ++ codes " " ++ word

@@ -10,7 +10,6 @@ use Rattle.surface_syntax.specs.declared.tree.Decl as code
 use Rattle.surface_syntax.specs.declared.stop.SyntaxStop.{SyntaxStop}
 use Rattle.surface_syntax.specs.declared.stop.SyntaxStop.TheVariants as syntax
 use Rattle.surface_syntax.specs.Parses.{parsed}
-use Rattle.elim.specs.program_texts.Unbuilt.{unbuilt}
 use Rattle.elim.specs.declared.program_texts.text_stop.TextStop.{TextStop}
 use Rattle.elim.specs.declared.program_texts.text_stop.TextStop.TheVariants as stop
 use Rattle.core_text.specs.declared.stop.CoreTextStop.{CoreTextStop}
@@ -39,18 +38,13 @@ abbrev pub read : Result (List Decl) SyntaxStop → Answer
 read (Ok decls) = Ok decls
 read (Err e) = Err (stop_of e)
 
--- a declaration that is not implemented yet comes before an answer of the grammar
-abbrev pub unless_unbuilt : Option ℕ → Answer → Answer
-unless_unbuilt (Some offset) answer = Err (stop.NotYet offset)
-unless_unbuilt None answer = answer
-
 -- The answer for the bytes. The first of these decides: they are too many; they are no UTF-8; somewhere there is no token.
--- Otherwise a declaration that is not implemented yet decides, or else the grammar.
+-- Otherwise the grammar decides.
 pub data Gives (bytes : List ℕ) : Answer → Type 0 where
   too_long : limit < length bytes → Gives bytes (Err stop.TooLong)
   not_utf8 : (offset : ℕ) → length bytes ≤ limit → IsValidUpTo bytes offset → Gives bytes (Err (stop.NotUtf8 offset))
   bad_token : (offset : ℕ) → length bytes ≤ limit → IsBadToken bytes offset → Gives bytes (Err (stop.BadToken offset))
-  tokens : (tokens : List Token) → length bytes ≤ limit → AreTokens bytes tokens → Gives bytes (unless_unbuilt (unbuilt bytes tokens) (read (parsed bytes tokens)))
+  tokens : (tokens : List Token) → length bytes ≤ limit → AreTokens bytes tokens → Gives bytes (read (parsed bytes tokens))
 
 -- an answer of the code
 abbrev pub answer_of : Result (List code.Decl) TextStop → Answer

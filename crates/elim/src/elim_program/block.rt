@@ -2,7 +2,6 @@ ghost use Rattle.std.specs.Prelude.{◌≡◌, ◌≤◌, ◌<◌, ◌+◌, ◌-
 ghost use Rattle.elab_session.specs.Refusals.{IsUnforeseen};
 ghost use Rattle.elim.specs.declared.program_texts.status.Status.TheVariants.{NoMemory};
 ghost use Rattle.elim.specs.elim_program.Blocks.{Makes};
-ghost use Rattle.elim.specs.program_texts.ClauseTexts.{clause_lines};
 ghost use Rattle.elim.specs.program_texts.Lines.{text_of};
 ghost use Rattle.elim.specs.elim_program.Outputs as spec;
 ghost use Rattle.elim.specs.program_texts.Refusals.{refusal_line, refused_lines, stop_line};
@@ -126,37 +125,82 @@ fn write_accepted(out: &mut Vec<u8>, name: &Name) -> Result<(), Status>
     Ok(())
 }
 
-/// Writes the lines of clauses, and that the declaration is accepted.
+/// Writes the line of the equation of a member's constructor.
+fn write_equation(out: &mut Vec<u8>, line: &(Name, Name)) -> Result<(), Status>
+    ensures ok { OnOk result (out.new.items ≡ out.old.items ++ (spec.mutual_line line.now ++ codes "\n")) }
+    ensures memory { OnErr result (result ≡ Err NoMemory) }
+{
+    out.extend_from_slice(b"# mutual ")?;
+    out.extend_from_slice(line.0.as_slice())?;
+    out.extend_from_slice(b" ")?;
+    out.extend_from_slice(line.1.as_slice())?;
+    out.extend_from_slice(b" definitional\n")?;
+    Ok(())
+}
+
+/// Writes the lines of the equations of inductions.
+fn write_equations(out: &mut Vec<u8>, lines: &[(Name, Name)]) -> Result<(), Status>
+    ensures ok { OnOk result (out.new.items ≡ out.old.items ++ text_of (map spec.mutual_line lines.now)) }
+    ensures memory { OnErr result (result ≡ Err NoMemory) }
+{
+    match lines {
+        [] => Ok(()),
+        [first, rest @ ..] => {
+            write_equation(out, first)?;
+            write_equations(out, rest)
+        }
+    }
+}
+
+/// Writes the lines of clauses and of equations of inductions.
+fn write_notes(
+    alloc: Global,
+    out: &mut Vec<u8>,
+    sig: &Signature,
+    clauses: &[ClauseLine],
+    equations: &[(Name, Name)],
+) -> Result<(), Status>
+    ensures ok { OnOk result (out.new.items ≡ out.old.items ++ text_of (spec.note_lines sig.now (map clause_line_of clauses.now) equations.now)) }
+    ensures memory { OnErr result (result ≡ Err NoMemory) }
+{
+    write_clauses(alloc, out, sig, clauses)?;
+    write_equations(out, equations)
+}
+
+/// Writes the lines of clauses and of equations of inductions, and that the declaration is accepted.
 fn write_end(
     alloc: Global,
     out: &mut Vec<u8>,
     sig: &Signature,
     clauses: &[ClauseLine],
+    equations: &[(Name, Name)],
     name: &Name,
 ) -> Result<(), Status>
-    ensures ok { OnOk result (out.new.items ≡ out.old.items ++ text_of (clause_lines sig.now (map clause_line_of clauses.now) ++ spec.accepted_line name.now ∷ [])) }
+    ensures ok { OnOk result (out.new.items ≡ out.old.items
+        ++ text_of (spec.note_lines sig.now (map clause_line_of clauses.now) equations.now ++ spec.accepted_line name.now ∷ [])) }
     ensures memory { OnErr result (result ≡ Err NoMemory) }
 {
-    write_clauses(alloc, out, sig, clauses)?;
+    write_notes(alloc, out, sig, clauses, equations)?;
     write_accepted(out, name)
 }
 
-/// The lines of a declaration: its entries, from number `from` on, its clauses, and that it is accepted.
+/// The lines of a declaration: its entries, from number `from` on, its clauses or the equations of its inductions, and that it is accepted.
 #[tactic(auto, using(crate::proofs::elim_program::TextLines::text_both))]
 pub(crate) fn accepted_block(
     alloc: Global,
     sig: &Signature,
     from: u32,
     clauses: &[ClauseLine],
+    equations: &[(Name, Name)],
     name: &Name,
 ) -> Result<Block, Status>
     requires { from ≤ length sig.now.entries }
     ensures { Makes result (spec.block (spec.entry_lines sig.now from (length sig.now.entries - from)
-        ++ (clause_lines sig.now (map clause_line_of clauses.now) ++ spec.accepted_line name.now ∷ [])) false) }
+        ++ (spec.note_lines sig.now (map clause_line_of clauses.now) equations.now ++ spec.accepted_line name.now ∷ [])) false) }
 {
     let mut text = Vec::new(alloc);
     write_entries(alloc, &mut text, sig, from, sig.len() - from)?;
-    write_end(alloc, &mut text, sig, clauses, name)?;
+    write_end(alloc, &mut text, sig, clauses, equations, name)?;
     Ok(Block {
         text,
         refused: false,

@@ -36,6 +36,7 @@ fn declare(alloc: Global, session: &mut Session, d: &Decl) -> Result<Block, Stat
             session.signature(),
             accepted.from,
             accepted.lines.as_slice(),
+            accepted.mutual.as_slice(),
             &accepted.name,
         ),
         Err(refusal) => refused_block(alloc, declared_name(d), &refusal),

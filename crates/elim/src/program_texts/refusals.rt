@@ -4,7 +4,7 @@ ghost use Rattle.elim.specs.program_texts.Lines.{text_of};
 ghost use Rattle.elim.specs.program_texts.Refusals as spec;
 
 use crate::program_texts::TextStop;
-use crate::program_texts::refused_functions::write_function;
+use crate::program_texts::refused_functions::{write_function, write_sides};
 use core_terms::Name;
 use elab_session::{PartName, Refusal};
 use std::alloc::AllocError;
@@ -125,7 +125,50 @@ fn write_ill_typed(
     write_denial(out, place, ctx, reason)
 }
 
-/// Writes why a decision of equality or a function is refused.
+/// Writes which equation of the induction of a member does not hold by conversion.
+fn write_unequal(
+    out: &mut Vec<u8>,
+    member: &[u8],
+    con: &[u8],
+    ctx: &[u8],
+    left: &[u8],
+    right: &[u8],
+) -> Result<(), AllocError>
+    ensures { OnOk result (out.new.items ≡ out.old.items
+        ++ (codes "Unequal " ++ member.now ++ codes " " ++ con.now ++ codes " " ++ spec.sides_text ctx.now left.now right.now)) }
+{
+    write_after(out, b"Unequal ", member)?;
+    write_after(out, b" ", con)?;
+    out.extend_from_slice(b" ")?;
+    write_sides(out, ctx, left, right)
+}
+
+/// Writes why families that refer to each other or a function are refused.
+fn write_mutual(out: &mut Vec<u8>, refusal: &Refusal) -> Result<(), AllocError>
+    ensures { OnOk result (out.new.items ≡ out.old.items ++ spec.mutual_text refusal.now) }
+{
+    match refusal {
+        Refusal::TagCount(count) => write_at(out, b"TagCount ", *count),
+        Refusal::MemberLevel(k) => write_at(out, b"MemberLevel ", *k),
+        Refusal::Unequal {
+            member,
+            con,
+            ctx,
+            left,
+            right,
+        } => write_unequal(
+            out,
+            member.as_slice(),
+            con.as_slice(),
+            ctx.as_slice(),
+            left.as_slice(),
+            right.as_slice(),
+        ),
+        other => write_function(out, other),
+    }
+}
+
+/// Writes why a decision of equality, families that refer to each other or a function are refused.
 fn write_undecided(out: &mut Vec<u8>, refusal: &Refusal) -> Result<(), AllocError>
     ensures { OnOk result (out.new.items ≡ out.old.items ++ spec.undecided_text refusal.now) }
 {
@@ -135,7 +178,7 @@ fn write_undecided(out: &mut Vec<u8>, refusal: &Refusal) -> Result<(), AllocErro
         Refusal::NotFirstOrder(name, k) => {
             write_argument(out, b"NotFirstOrder ", name.as_slice(), *k)
         }
-        other => write_function(out, other),
+        other => write_mutual(out, other),
     }
 }
 
@@ -145,7 +188,6 @@ fn write_refusal(out: &mut Vec<u8>, refusal: &Refusal) -> Result<(), AllocError>
 {
     match refusal {
         Refusal::Memory => out.extend_from_slice(b"Memory"),
-        Refusal::NotYet(offset) => write_at(out, b"NotYet ", *offset),
         Refusal::Fuel(units) => {
             out.extend_from_slice(b"Fuel ")?;
             write_number(out, *units)
@@ -223,7 +265,6 @@ pub fn write_stop(out: &mut Vec<u8>, stop: TextStop) -> Result<(), AllocError>
         TextStop::TooLong => out.extend_from_slice(b"TooLong 1048576"),
         TextStop::NotUtf8(offset) => write_at(out, b"NotUtf8 ", offset),
         TextStop::BadToken(offset) => write_at(out, b"BadToken ", offset),
-        TextStop::NotYet(offset) => write_at(out, b"NotYet ", offset),
         TextStop::Nested(offset) => write_at(out, b"Nested ", offset),
         TextStop::Syntax(offset) => write_at(out, b"Syntax ", offset),
         TextStop::NotCoreText(offset) => write_at(out, b"NotCoreText ", offset),

@@ -75,7 +75,12 @@ fn write_failing_calls(out: &mut Vec<u8>, calls: &[FailingCall]) -> Result<(), A
 }
 
 /// Writes two sides that are not the same.
-fn write_sides(out: &mut Vec<u8>, ctx: &[u8], left: &[u8], right: &[u8]) -> Result<(), AllocError>
+pub fn write_sides(
+    out: &mut Vec<u8>,
+    ctx: &[u8],
+    left: &[u8],
+    right: &[u8],
+) -> Result<(), AllocError>
     ensures { OnOk result (out.new.items ≡ out.old.items ++ spec.sides_text ctx.now left.now right.now) }
 {
     out.extend_from_slice(ctx)?;

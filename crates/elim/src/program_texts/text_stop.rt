@@ -6,7 +6,7 @@ use surface_syntax::SyntaxStop;
 
 /// Why a source file is refused at one of its bytes, or whole; each offset is one in bytes.
 ///
-/// `TooLong` is a file of more than 1,048,576 bytes, and `NotYet` a declaration that is not implemented yet.
+/// `TooLong` is a file of more than 1,048,576 bytes.
 /// `NotCoreText` is that of core text, `Nested` that of core text or of the grammar, and the others are those of the
 /// tokens and of the grammar.
 #[derive(Clone, Copy, Debug, PartialEq, Eq)]
@@ -15,7 +15,6 @@ pub enum TextStop {
     TooLong,
     NotUtf8(u32),
     BadToken(u32),
-    NotYet(u32),
     Nested(u32),
     Syntax(u32),
     NotCoreText(u32),

@@ -3,7 +3,6 @@ ghost use Rattle.elim.specs.program_texts.Texts.{Says, limit, limited};
 
 use crate::program_texts::TextStop;
 use crate::program_texts::text_stop::stop_of;
-use crate::program_texts::unbuilt::unbuilt;
 use core_terms::Items;
 use std::alloc::Global;
 use surface_syntax::{Decl, parse, tokens};
@@ -19,9 +18,6 @@ fn written(alloc: Global, bytes: &[u8]) -> Result<Items<Decl>, TextStop>
         Ok(tokens) => tokens,
         Err(stop) => return Err(stop_of(stop)),
     };
-    if let Some(offset) = unbuilt(bytes, tokens.as_slice()) {
-        return Err(TextStop::NotYet(offset));
-    }
     match parse(alloc, bytes, &tokens) {
         Ok(decls) => Ok(decls),
         Err(stop) => Err(stop_of(stop)),

@@ -1,7 +1,8 @@
 pub mod Declarations
-pub mod ExtendedReports
 pub mod ExtendedFunctions
+pub mod ExtendedReports
+pub mod Texts
+pub mod UnmarkedDeclarations
 pub mod UnmarkedEntries
 pub mod UnmarkedFamilies
-pub mod UnmarkedDeclarations
-pub mod Texts
+pub mod UnmarkedMutual

@@ -48,6 +48,7 @@ fn declare_named(
         from,
         to: sig.len(),
         lines: Items::new(alloc),
+        mutual: Items::new(alloc),
     })
 }
 

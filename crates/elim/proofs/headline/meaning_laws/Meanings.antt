@@ -51,7 +51,7 @@ counts-meant-from s (d ∷ ds) c are =
 text-are : TextIsMeant → (bytes : List ℕ) (ds : List Decl) (k : Bool) (fuel : ℕ) → Gives bytes (Ok ds)
     → AreMeant (new_session k fuel) ds
 text-are meant bytes ds k fuel gives =
-    let read = (is-read bytes ds gives).0 in meant limit bytes read.tokens ds k fuel read.split read.file
+    let read = is-read bytes ds gives in meant limit bytes read.tokens ds k fuel read.split read.file
 
 pub lines-meant : TextIsMeant → LinesAreMeant
 lines-meant meant bytes ds k fuel gives = lines-meant-from (new_session k fuel) ds (text-are meant bytes ds k fuel gives)

@@ -16,9 +16,8 @@ use Rattle.function_session.specs.Declaring.{declared_in, new_session, session_a
 use Rattle.function_session.specs.Elaborating.{Elaborated}
 use Rattle.function_session.specs.Sessions.{Session}
 use Rattle.elim.specs.declared.program_texts.status.Status.TheVariants as status
-use Rattle.elim.specs.program_texts.ClauseTexts.{clause_lines}
 use Rattle.elim.specs.elim_program.DefinedOutputs.{refused_words, compiles, verifies, works}
-use Rattle.elim.specs.elim_program.Outputs.{Block, block, lines_after, accepted_line, declared_name, declared_block, followed, declarations, text_block, head_lines, compiled}
+use Rattle.elim.specs.elim_program.Outputs.{Block, block, lines_after, note_lines, accepted_line, declared_name, declared_block, followed, declarations, text_block, head_lines, compiled}
 use Rattle.elim.specs.program_texts.Refusals.{candidate_lines, candidate_of, refusal_line, refusal_text, refused_lines, stop_text}
 use Rattle.elim.specs.program_texts.Texts.{limited}
 use Rattle.elim.specs.elim_program.Verifies.{read_name, verified_line, entry_block, read_block, after_entry, next_block, entries, after_head, file_block}
@@ -108,8 +107,8 @@ heads-told false = record { front = codes "elim 1" ∷ []; line = codes "prelude
 declared-told : (S : Signature) (d : Decl) (r : Result Elaborated Refusal) → IsToldBy (declared_block S d r)
 unfolding IsToldBy
 declared-told S d (Ok a) =
-    inr (after-others (lines_after S a.signature) (clause_lines a.signature a.lines ++ accepted_line a.name ∷ []) false
-    (after-others (clause_lines a.signature a.lines) (accepted_line a.name ∷ []) false (one (accepted_line a.name) false (accepted-told a.name))))
+    inr (after-others (lines_after S a.signature) (note_lines a.signature a.lines a.equations ++ accepted_line a.name ∷ []) false
+    (after-others (note_lines a.signature a.lines a.equations) (accepted_line a.name ∷ []) false (one (accepted_line a.name) false (accepted-told a.name))))
 declared-told S d (Err e) = inr (refused-told (declared_name d) e)
 
 declarations-told : (s : Session) (ds : List Decl) → IsToldBy (declarations s ds)

@@ -7,9 +7,8 @@ use Rattle.theory.specs.Prelude.{prelude}
 use Rattle.theory.specs.Signatures.{Entry, FamilyOf, EliminatorAt, AxiomKAt, Definition, Signature, IsPrefix}
 use Rattle.theory.proofs.Widening.{prefix_keeps}
 use Rattle.core_text.specs.EntryText.{entry_text}
-use Rattle.elim.specs.program_texts.ClauseTexts.{clause_lines}
 use Rattle.elim.specs.elim_program.Headline.{is_core, core_lines, Shows, none, more, IsShown}
-use Rattle.elim.specs.elim_program.Outputs.{line_of, entry_lines, lines_after, head_lines}
+use Rattle.elim.specs.elim_program.Outputs.{line_of, entry_lines, lines_after, note_lines, head_lines}
 use Rattle.elim.proofs.elim_program.Accepted.{shows-more}
 use Rattle.elim.specs.headline.program_laws.Laws.{WithoutK, VerifiedWithoutK}
 use Rattle.elim.specs.headline.program_laws.WithoutK.{LacksK, HasNoK, IsOtherLine, AreWithoutK}
@@ -73,11 +72,11 @@ heads-other =
 module _ (words : List (List ℕ)) (bytes : List ℕ) (above : List (List ℕ)) (name : List ℕ) (shown : IsShown words bytes above name) where
   -- the lines above without the head lines
   pub later : List (List ℕ)
-  later = shown.earlier ++ (lines_after shown.before shown.after ++ clause_lines shown.after shown.clauses)
+  later = shown.earlier ++ (lines_after shown.before shown.after ++ note_lines shown.after shown.clauses shown.equations)
 
   pub shows-later : Shows (prelude shown.k) shown.after (core_lines later)
   unfolding later
-  shows-later = shows-more (prelude shown.k) shown.before shown.after shown.clauses shown.earlier shown.shown shown.longer
+  shows-later = shows-more (prelude shown.k) shown.before shown.after shown.clauses shown.equations shown.earlier shown.shown shown.longer
 
   pub above-later : above ≡ head_lines shown.k ++ later
   unfolding later

@@ -5,7 +5,6 @@ use Rattle.elim.specs.headline.program_laws.Laws.{ReasonsAreGiven}
 
 pub reasons-given : ReasonsAreGiven
 reasons-given refusal.Memory = omega arith
-reasons-given (refusal.NotYet offset) = omega arith
 reasons-given (refusal.Fuel units) = omega arith
 reasons-given refusal.Deep = omega arith
 reasons-given (refusal.UnknownName offset word) = omega arith
@@ -27,4 +26,7 @@ reasons-given (refusal.NotSmaller calls) = omega arith
 reasons-given (refusal.NotPlainFamily word) = omega arith
 reasons-given (refusal.NotDecision word) = omega arith
 reasons-given (refusal.NotFirstOrder name k) = omega arith
+reasons-given (refusal.TagCount count) = omega arith
+reasons-given (refusal.MemberLevel k) = omega arith
+reasons-given (refusal.Unequal member con ctx left right) = omega arith
 reasons-given (refusal.Rejected entry line place ctx reason) = omega arith

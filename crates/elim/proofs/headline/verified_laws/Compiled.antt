@@ -22,11 +22,10 @@ use Rattle.function_session.specs.Sessions.{Session}
 use Rattle.function_session.proofs.HeldDecisions.{declare-ready}
 use Rattle.elim.specs.refusal_laws.accepted_laws.Checked.{Checked, unchanged, one_more}
 use Rattle.elim.specs.elim_program.Acceptance.{Accepts, end, next, own_lines}
-use Rattle.elim.specs.program_texts.ClauseTexts.{clause_lines}
 use Rattle.elim.specs.elim_program.DefinedOutputs.{IsOutput, compiles, refused_words, verifies, works}
 use Rattle.elim.specs.elim_program.Headline.{Shows, core_lines, more, none}
 use Rattle.elim.specs.program_texts.Lines.{text_of}
-use Rattle.elim.specs.elim_program.Outputs.{Output, accepted_line, accepted_lines, block, compiled, declarations, declared_block, followed, head_lines, lines_after, text_block}
+use Rattle.elim.specs.elim_program.Outputs.{Output, accepted_line, accepted_lines, block, compiled, declarations, declared_block, followed, head_lines, lines_after, note_lines, text_block}
 use Rattle.elim.specs.program_texts.Texts.{Answer, Gives}
 use Rattle.elim.specs.elim_program.Verifies.{verified_line}
 use Rattle.elim.specs.program_texts.Words.{asked}
@@ -54,7 +53,7 @@ longer {fuel} {S} (one_more T e h lets) = prefix_transitive S T _ (longer h) (pu
 accepted-core : (S : Signature) (a : Elaborated) → core_lines (accepted_lines S a) ≡ lines_after S a.signature
 accepted-core S a =
     let last = accepted_line a.name ∷ [] in
-    ap core_lines (sym (append_assoc (lines_after S a.signature) (clause_lines a.signature a.lines) last))
+    ap core_lines (sym (append_assoc (lines_after S a.signature) (note_lines a.signature a.lines a.equations) last))
     ∙ core-lines-append (own_lines S a) last ∙ append-nil (core_lines (own_lines S a)) ∙ own-core S a
 
 IsSeen : Signature → Signature → List (List ℕ) → Type 0

@@ -33,9 +33,10 @@ use Rattle.clause_reports.specs.Generated as gen
 use Rattle.clause_reports.specs.Generated.{Generated, name_of}
 use Rattle.drafts.specs.draft_entering.Tables.{IsListed}
 use Rattle.proof_walks.specs.proof_terms.CodeProofs.{name_made}
+use Rattle.mutual_pack.specs.Inductions.{induction_name}
 use Rattle.elim.proofs.headline.writing_laws.Carrying.{skip, After}
 use Rattle.elim.proofs.headline.writing_laws.Marks.{holds_mark, unmarked-join, decimal-unmarked, IsStem, declarable}
-use Rattle.elim.proofs.headline.writing_laws.Stems.{equality-stem, case-chars, below-chars, aux-chars, rec-chars, all-chars, nct-chars, noconf-chars, point-chars, direct-chars, acyclic-chars, left-chars, motive-chars, step-chars, helper-chars, proof-chars, mark-chars, one-mark, level-mark}
+use Rattle.elim.proofs.headline.writing_laws.Stems.{equality-stem, case-chars, below-chars, aux-chars, rec-chars, all-chars, nct-chars, noconf-chars, point-chars, direct-chars, acyclic-chars, induction-chars, left-chars, motive-chars, step-chars, helper-chars, proof-chars, mark-chars, one-mark, level-mark}
 
 -- ---- digits
 
@@ -107,6 +108,9 @@ motive-named x is = one-mark x (codes "motive") is motive-chars (omega arith) (r
 
 pub step-named : (x : List ℕ) → IsStem x → IsDeclarableName (step_name x)
 step-named x is = one-mark x (codes "step") is step-chars (omega arith) (record { unmarked = refl; no_elim = refl; no_k = refl })
+
+pub induction-named : (x : List ℕ) → IsStem x → IsDeclarableName (induction_name x)
+induction-named x is = one-mark x (codes "ind") is induction-chars (omega arith) (record { unmarked = refl; no_elim = refl; no_k = refl })
 
 pub helper-named : (x : List ℕ) (k : ℕ) → IsStem x → k < 10000000000 → IsDeclarableName (helper_name x k)
 helper-named x k is lt =

@@ -1,6 +1,6 @@
 -- Names of the families of the prelude, and of what is generated for a family.
 use Rattle.std.proofs.Common.{◌≡◌, inl, inr, ℕ, zero, suc, ◌+◌, ◌/◌, ◌%◌, ◌<◌, ◌≤◌, nat_lt, cond, ◌&&◌, Bool, true, false, List, [], ◌∷◌, ◌++◌, length, refl, sym, ap₂, ◌∙◌, subst, append_assoc, arith}
-use Rattle.std.specs.Prelude.{◌==◌, nat_le, codes, decimal}
+use Rattle.std.specs.Prelude.{◌==◌, nat_le, codes}
 use Rattle.std.specs.Str.{is_utf8, chars}
 use Rattle.std.proofs.lemmas.Bool.Decides.{nat_tests}
 use Rattle.std.proofs.lemmas.Str.{IsUtf8-from_is_utf8, chars-append}
@@ -150,6 +150,10 @@ point-chars = refl
 pub direct-chars : are_name_chars (codes "direct") ≡ true
 unfolding is_utf8 chars unicode_ident encode
 direct-chars = refl
+
+pub induction-chars : are_name_chars (codes "ind") ≡ true
+unfolding is_utf8 chars unicode_ident encode
+induction-chars = refl
 
 pub acyclic-chars : are_name_chars (codes "acyclic") ≡ true
 unfolding is_utf8 chars unicode_ident encode

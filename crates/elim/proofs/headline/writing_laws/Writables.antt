@@ -30,7 +30,7 @@ use Rattle.surface_syntax.specs.word_laws.Words.{Each}
 use Rattle.elim.specs.headline.writing_laws.Writing.{AreLow, HasFewParameters, IsSurfaceName, IsOrdinary, AcceptedIsWritable}
 use Rattle.elim.proofs.headline.writing_laws.Carrying.{After, if-ok}
 use Rattle.elim.proofs.headline.writing_laws.Marks.{holds_mark, unmarked-join, IsStem}
-use Rattle.elim.proofs.headline.writing_laws.Names.{IsPart, AreParts, HasStems, AreNamed, motive-named, step-named, helper-named, proof-named, generated-named, named-pushed, define-named, eliminator-named, axiom_k-named}
+use Rattle.elim.proofs.headline.writing_laws.Names.{IsPart, AreParts, HasStems, AreNamed, motive-named, step-named, induction-named, helper-named, proof-named, generated-named, named-pushed, define-named, eliminator-named, axiom_k-named}
 use Rattle.elim.proofs.headline.writing_laws.Ordinary.{text-ordinary}
 use Rattle.elim.proofs.headline.writing_laws.Sessions.{DeclIs, RawIs, KeepsAll, declared-keeps}
 use Rattle.elim.proofs.headline.writing_laws.StaysLow.{entries-stay-low}
@@ -127,6 +127,7 @@ module _ (stay : NamesStayReadable) (begins : PreludeHasReadableNames) (surface 
       helper = λ x k h few. helper-named x k (stem-of x h) few;
       proof = λ x k clause h few. proof-named x k clause (stem-of x h) few;
     };
+    induction = λ x h. induction-named x (stem-of x h);
     declare = λ S raw left named h. if-ok (EntersAsDeclared S raw) (After AreNamed) (entering.declare_of S raw left).0 (family-named S raw named h) (declare-gives S raw left);
   }
 
@@ -134,14 +135,14 @@ module _ (stay : NamesStayReadable) (begins : PreludeHasReadableNames) (surface 
   ordinary-is S (surf.Def x ty body) h = h
   ordinary-is S (surf.Data x params ty cons) h = h
   ordinary-is S (surf.Decide x family into) h = h
-  ordinary-is S (surf.Mutual params members f tag tags) h = tt
+  ordinary-is S (surf.Mutual params members f tag tags) h = h
   ordinary-is S (surf.Fun x ty clauses) h = h
 
   few-in : (S : Signature) (d : surf.Decl) → IsOrdinary S d → HasFewParameters d
   few-in S (surf.Def x ty body) h = tt
   few-in S (surf.Data x params ty cons) h = h.1
   few-in S (surf.Decide x family into) h = tt
-  few-in S (surf.Mutual params members f tag tags) h = tt
+  few-in S (surf.Mutual params members f tag tags) h = h.4
   few-in S (surf.Fun x ty clauses) h = tt
 
   named-after : (s : Session) (d : surf.Decl) (a : Elaborated) → AreNamed s.signature → IsOrdinary s.signature d → declared_in s d ≡ Ok a

@@ -24,6 +24,7 @@ use Rattle.elim.specs.refusal_laws.accepted_laws.Laws.{DeclareIsChecked, Elabora
 use Rattle.elim.proofs.refusal_laws.accepted_laws.Drafts.{entering-is-checked}
 use Rattle.elim.proofs.refusal_laws.accepted_laws.Families.{family-checked}
 use Rattle.elim.proofs.refusal_laws.accepted_laws.Functions.{function-is-checked}
+use Rattle.elim.proofs.refusal_laws.accepted_laws.MutualFamilies.{mutual-checked}
 use Rattle.elim.proofs.refusal_laws.accepted_laws.Steps.{define-checked}
 
 abbrev CheckedAfter : ℕ → Signature → Declared → Type 0
@@ -87,5 +88,5 @@ declare-checked s (surf.Data x params ty cons) = elaborate-checked s.signature s
 declare-checked s (surf.Decide x family into) =
     decision-has (CheckedAll s.fuel s.signature) s.signature s.decisions s.fuel x family into (λ given T d.
     transport (λ r. IfOk r (Checked s.fuel s.signature)) d.made (draft-checked s.signature given.name d.draft s.fuel))
-declare-checked s (surf.Mutual params members family tag tags) = elaborate-checked s.signature s.fuel (surf.Mutual params members family tag tags)
+declare-checked s (surf.Mutual params members family tag tags) = mutual-checked s.fuel s.signature params members family tag tags
 declare-checked s (surf.Fun x ty clauses) = elaborate-checked s.signature s.fuel (surf.Fun x ty clauses)

@@ -33,7 +33,7 @@ module _ (fuel : ℕ) where
   abbrev CheckedWith : Signature → Lines → Type 0
   CheckedWith S lines = Checked fuel S lines.signature
 
-  reporting-within : {A : Type 0} (P : A → Type 0) (S : Signature) (owner : Owner) (outcome : Reporting A) → Within fuel P outcome
+  pub reporting-within : {A : Type 0} (P : A → Type 0) (S : Signature) (owner : Owner) (outcome : Reporting A) → Within fuel P outcome
       → Within fuel P (reporting S owner outcome)
   reporting-within P S owner outcome h = (no_report-has P S owner outcome.0 h.0, h.1)
 

@@ -1,5 +1,5 @@
 -- Laws that use the headline of the program.
-use Rattle.std.specs.Prelude.{◌≡◌, ◌<◌, ◌++◌, ℕ, false, List, length, None, Ok}
+use Rattle.std.specs.Prelude.{◌≡◌, ◌<◌, ◌++◌, ℕ, false, List, length, Ok}
 use Rattle.surface_syntax.specs.Parses.{parsed}
 use Rattle.surface_syntax.specs.Trees.{Decl}
 use Rattle.surface_syntax.specs.declared.token.Token.{Token}
@@ -11,7 +11,6 @@ use Rattle.elim.specs.elim_program.Outputs.{Output}
 use Rattle.elim.specs.elim_program.Reading.{IsRead}
 use Rattle.elim.specs.program_texts.Refusals.{refusal_text}
 use Rattle.elim.specs.program_texts.Texts.{Gives}
-use Rattle.elim.specs.program_texts.Unbuilt.{unbuilt}
 use Rattle.elim.specs.elim_program.VerifyHeadline.{IsVerified}
 use Rattle.elim.specs.headline.program_laws.Answers.{SaysOf}
 use Rattle.elim.specs.headline.program_laws.CoreFiles.{IsCoreFile, IsWritable}
@@ -26,9 +25,9 @@ HasOutput = (words : List (List ℕ)) (bytes : List ℕ) → (out : Output) × I
 abbrev pub ReadsByTheGrammar : Type 0
 ReadsByTheGrammar = (bytes : List ℕ) (tokens : List Token) → SaysOf bytes tokens (parsed bytes tokens)
 
--- The declarations that are read from a source file are those that the grammar has for its tokens, and all of them are implemented.
+-- The declarations that are read from a source file are those that the grammar has for its tokens.
 abbrev pub GivesByTheGrammar : Type 0
-GivesByTheGrammar = (bytes : List ℕ) (decls : List Decl) → Gives bytes (Ok decls) → (is : IsRead bytes decls) × (unbuilt bytes is.tokens ≡ None)
+GivesByTheGrammar = (bytes : List ℕ) (decls : List Decl) → Gives bytes (Ok decls) → IsRead bytes decls
 
 -- The status is the one that the last line shows: `Refused` exactly where it begins with `# refused `, `Usage` exactly where
 -- it begins with `# usage `, and else `Done`.

@@ -23,6 +23,7 @@ AreLow S = (n : ℕ) (e : Entry) → length (prelude S.has_k).entries ≤ n → 
 -- a family has fewer than 2^32 parameters, as each of a source file has
 abbrev pub HasFewParameters : surf.Decl → Type 0
 HasFewParameters (surf.Data x params ty cons) = length params < 2 ^ 32
+HasFewParameters (surf.Mutual params members f tag tags) = length params < 2 ^ 32
 HasFewParameters _ = Unit {0}
 
 -- Whatever the checker accepts is low enough for a core file: if no entry shows a term that is too high, none does after a
@@ -47,8 +48,10 @@ abbrev pub IsOrdinary : Signature → surf.Decl → Type 0
 IsOrdinary S (surf.Def x ty body) = IsSurfaceName x.text
 IsOrdinary S (surf.Data x params ty cons) = IsSurfaceName x.text × (length params < 2 ^ 32) × Each (λ c. IsSurfaceName c.name.text) cons
 IsOrdinary S (surf.Decide x family into) = IsSurfaceName x.text
+IsOrdinary S (surf.Mutual params members f tag tags) =
+    Each (λ m. IsSurfaceName m.name.text × Each (λ c. IsSurfaceName c.name.text) m.cons) members × IsSurfaceName f.text × IsSurfaceName tag.text
+    × Each (λ x. IsSurfaceName x.text) tags × (length params < 2 ^ 32)
 IsOrdinary S (surf.Fun x ty clauses) = IsSurfaceName x.text × IfOk (function S x ty clauses) (HasFewParts S)
-IsOrdinary S _ = Unit {0}
 
 -- Each declaration of a source file is ordinary, over whatever signature it comes.
 abbrev pub TextIsOrdinary : Type 0

@@ -12,6 +12,7 @@ use Rattle.function_session.specs.Elaborating.{enter_function, on_function, on_l
 use Rattle.function_session.specs.decisions.Entering.{draft_entered, draft_meant, or_refused}
 use Rattle.function_session.specs.function_lines.Opened.{checked_entered, deep, lines_closed}
 use Rattle.function_session.proofs.DeclaredDecisions.{decision-same}
+use Rattle.function_session.proofs.function_laws.declaration_laws.UnmarkedMutual.{mutual-meant}
 use Rattle.function_session.specs.function_laws.declaration_laws.Laws.{DeclarationIsMeant, DeclaredIsMeant}
 use Rattle.function_session.specs.Meant.{enter_meant}
 
@@ -35,10 +36,10 @@ draft-meant : (S : Signature) (fuel : ℕ) (name : List ℕ) (d : Draft) → unm
 draft-meant S fuel name d marks = ap (λ (b : Bool). or_refused fuel (cond b (checked_entered S name d fuel) (deep fuel)).0) marks
 
 pub declared-meant : DeclaredIsMeant
-declared-meant s (surf.Def x ty body) marks = refl
-declared-meant s (surf.Data x params ty cons) marks = refl
-declared-meant s (surf.Decide x family into) marks =
+declared-meant s (surf.Def x ty body) names marks = refl
+declared-meant s (surf.Data x params ty cons) names marks = refl
+declared-meant s (surf.Decide x family into) names marks =
     decision-same draft_entered draft_meant s.signature s.decisions s.fuel x family into (λ given f draft at plain is.
     draft-meant s.signature s.fuel given.name draft marks)
-declared-meant s (surf.Mutual params members family tag tags) marks = refl
-declared-meant s (surf.Fun x ty clauses) marks = resolved-meant s.signature s.fuel x (function s.signature x ty clauses) marks
+declared-meant s (surf.Mutual params members family tag tags) names marks = mutual-meant s.signature s.fuel params members family tag tags names marks
+declared-meant s (surf.Fun x ty clauses) names marks = resolved-meant s.signature s.fuel x (function s.signature x ty clauses) marks

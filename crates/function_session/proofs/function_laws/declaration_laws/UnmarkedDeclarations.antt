@@ -30,6 +30,7 @@ use Rattle.function_session.specs.function_laws.declaration_laws.Laws.{Declarati
 use Rattle.function_session.proofs.function_laws.declaration_laws.ExtendedFunctions.{function-extends}
 use Rattle.function_session.proofs.function_laws.declaration_laws.UnmarkedEntries.{stays-unmarked}
 use Rattle.function_session.proofs.function_laws.declaration_laws.UnmarkedFamilies.{family-stays}
+use Rattle.function_session.proofs.function_laws.declaration_laws.UnmarkedMutual.{mutual-stays}
 
 -- ---- definitions
 
@@ -86,7 +87,7 @@ declaration-stays s (surf.Data x params ty cons) names h =
     without_lines-has LeavesUnmarked (declare_of s.signature s.fuel (surf.Data x params ty cons))
     (family-stays s.signature s.fuel x params ty cons names h)
 declaration-stays s (surf.Decide x family into) names h = decision-stays s x family into h
-declaration-stays s (surf.Mutual params members family tag tags) names h = tt
+declaration-stays s (surf.Mutual params members family tag tags) names h = mutual-stays s.signature s.fuel params members family tag tags names h
 declaration-stays s (surf.Fun x ty clauses) names h =
     function-has LeavesUnmarked s.signature s.fuel x ty clauses (λ f is.
     weaker (λ (l : Lines). Extends s.signature l.signature) (λ (l : Lines). unmarked l.signature ≡ true) (function_of s.signature f s.fuel).0

@@ -32,22 +32,22 @@ use Rattle.surface_syntax.specs.word_laws.Words.{Each}
 use Rattle.function_session.proofs.function_laws.declaration_laws.UnmarkedEntries.{more-entries}
 
 -- the name holds no `!`
-abbrev IsFree : List ℕ → Type 0
+abbrev pub IsFree : List ℕ → Type 0
 IsFree name = is_marked name ≡ false
 
 -- ---- the names of what is resolved are those that are written
 
-declared-named : (S : Signature) (before : List (List ℕ)) (x : Word) → IfOk (declared S before x) (λ name. name ≡ x.text)
+pub declared-named : (S : Signature) (before : List (List ℕ)) (x : Word) → IfOk (declared S before x) (λ name. name ≡ x.text)
 declared-named S before x = by (is_some (find S x.text) || list_any (bytes_eq x.text) before)
   where
     by : (b : Bool) → IfOk {E = ResolveStop} (if b then Err (Duplicate x.start x.text) else Ok x.text) (λ name. name ≡ x.text)
     by true = tt
     by false = refl
 
-abbrev names_in : List RawConstructor → List (List ℕ)
+abbrev pub names_in : List RawConstructor → List (List ℕ)
 names_in raws = map (λ (c : RawConstructor). c.name) raws
 
-constructors-named : (S : Signature) (known : Known) (scope : Scope) (before : List (List ℕ)) (cons : List surf.Typed)
+pub constructors-named : (S : Signature) (known : Known) (scope : Scope) (before : List (List ℕ)) (cons : List surf.Typed)
     → IfOk (constructors S known scope before cons) (λ raws. names_in raws ≡ names_of cons)
 constructors-named S known scope before [] = refl
 constructors-named S known scope before (c ∷ cons) =
@@ -75,7 +75,7 @@ constructors-free : (cs : List Constructor) → Each IsFree (map (λ (c : Constr
 constructors-free [] h = refl
 constructors-free (c ∷ cs) h = and_from (not (is_marked c.name)) (are_unmarked cs) (ap not h.0) (constructors-free cs h.1)
 
-family-free : (f : Family) → Each IsFree (signature.names_of (FamilyOf f)) → is_unmarked_entry (FamilyOf f) ≡ true
+pub family-free : (f : Family) → Each IsFree (signature.names_of (FamilyOf f)) → is_unmarked_entry (FamilyOf f) ≡ true
 family-free f h = and_from (not (is_marked f.name)) (are_unmarked f.constructors) (ap not h.0) (constructors-free f.constructors h.1)
 
 pushed-free : (S : Signature) (f : Family) → Each IsFree (signature.names_of (FamilyOf f)) → unmarked S ≡ true → unmarked (pushed S (FamilyOf f)) ≡ true

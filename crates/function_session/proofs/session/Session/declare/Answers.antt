@@ -10,6 +10,7 @@ use Rattle.function_session.specs.Laws.{KeepsReady, IsAsDeclared}
 use Rattle.function_session.specs.Meanings.{Answers, elaborated_in}
 use Rattle.function_session.specs.Meant.{declared_meant}
 use Rattle.function_session.specs.Sessions.{Session}
+use Rattle.function_session.specs.function_laws.declaration_laws.Laws.{DeclaresUnmarked}
 use Rattle.function_session.proofs.Answering.{says, stays}
 use Rattle.function_session.proofs.SessionAnswers.{session-held, session-next, session-same, session_of}
 use Rattle.function_session.proofs.HeldDecisions.{declare-ready, declared-held, declares-written}
@@ -36,8 +37,8 @@ pub returns-clause-meant : goal.returns-clause-meant
 returns-clause-meant c =
     let s = session_of c.self.inside.sig c.self.inside.decisions.items c.self.inside.fuel in
     let d = decl_of c.args.d.now in
-    transport (λ (s : Session). unmarked s.signature ≡ true → Answers c.declare.new.sig c.declare.result (declared_meant s d)) c.self.view_is (λ marks.
-    transport (Answers c.declare.new.sig c.declare.result) (c.declared_is_meant.ensures s d marks) c.declare.ensures.answer)
+    transport (λ (s : Session). DeclaresUnmarked d → unmarked s.signature ≡ true → Answers c.declare.new.sig c.declare.result (declared_meant s d)) c.self.view_is (λ names marks.
+    transport (Answers c.declare.new.sig c.declare.result) (c.declared_is_meant.ensures s d names marks) c.declare.ensures.answer)
 
 pub returns-clause-err : goal.returns-clause-err
 returns-clause-err c =

@@ -1,0 +1,10 @@
+pub mod CallAnswers
+pub mod ComparableEquations
+pub mod EnterablePacked
+pub mod EnteredInductions
+pub mod NewNames
+pub mod PackedEntries
+pub mod PhasedMutual
+pub mod ScopedEquations
+pub mod SliceAnswers
+pub mod WrittenMutual

@@ -1,0 +1,6 @@
+pub mod Conditions
+pub mod Declaring
+pub mod Entering
+pub mod EquationLines
+pub mod Laws
+pub mod Refusals
